@@ -1,0 +1,27 @@
+use Rattle.format.specs.Count.{adds-part}
+use denote.Ref.{now}
+use mathlib.Core.Path.{refl}
+use borrow.Author.Needs.{needs}
+use Rattle.format.proofs.append_run.Statement.{statement}
+use Rattle.format.proofs.append_run.Tie as tie
+
+returns : tie.Need-returns
+returns c =
+    let a = c .before .before .before .before .before .before .before .before .args in
+    let l = c .before .before .before .before .least in
+    let m = c .before .before .before .before .before .more in
+    let w = c .before .before .copy in
+    adds-part (now (a .b)) (now (a .out)) (w .last .1 .0) (a .s) _ (l .result) (l .ensures) (m .ensures) refl (w .kept .1 .0) (w .ensures)
+
+pub append-run-spec : {M : Type 1} → statement M
+append-run-spec =
+    tie.close
+    (tie.spec
+    (λ c κs. search needs)
+    (λ c κs. search needs)
+    (λ c. search needs)
+    (λ c. search needs)
+    (λ c. search needs)
+    (λ c κs. search needs)
+    (λ c. search needs)
+    returns)

@@ -1,0 +1,179 @@
+-- One format or another, told apart by the first number; what may be missing; a prefix that may be missing. Assumes nothing.
+use mathlib.Core.Path.{_≡_, refl, _∙_, ap, subst}
+use mathlib.Core.Logic.{_⊎_, inl, inr}
+use mathlib.Core.Bool.{Bool, true, false}
+use mathlib.Core.Option.{Option, none, some}
+use mathlib.Core.List.{List, [], _∷_, _++_}
+use Prim.Native.Nat.{ℕ, _<_}
+use lib.Dec.{eqb}
+use borrow.Author.Tests.{eq-eqb}
+use Rattle.format.specs.Parsed.{Parsed, fail, got, fail-got, map, map-inv}
+use Rattle.format.specs.Format.{Format}
+use Rattle.format.specs.Basic.{number, tag, lit, empty}
+use Rattle.format.specs.Combine.{pair, iso}
+
+-- everything that F prints begins with a number at which p is v
+abbrev pub Heads : {A : Type 0} → Format A → (ℕ → Bool) → Bool → Type 0
+Heads {A} F p v = (a : A) → F .Ok a → (x : ℕ) × (t : List ℕ) × (F .print a ≡ x ∷ t) × (p x ≡ v)
+
+-- whether a number is k
+abbrev pub is : ℕ → ℕ → Bool
+is k x = eqb x k
+
+pub is-self : (k : ℕ) → is k k ≡ true
+is-self k = eq-eqb k k refl
+
+-- ---- one of two
+
+module _ {A B : Type 0} (p : ℕ → Bool) (F : Format A) (G : Format B) where
+  abbrev pub altOk : A ⊎ B → Type 0
+  altOk (inl a) = F .Ok a
+  altOk (inr b) = G .Ok b
+
+  abbrev pub altPrint : A ⊎ B → List ℕ
+  altPrint (inl a) = F .print a
+  altPrint (inr b) = G .print b
+
+  abbrev pub altPick : Bool → List ℕ → Parsed (A ⊎ B)
+  altPick true s = map inl (F .parse s)
+  altPick false s = map inr (G .parse s)
+
+  abbrev pub altParse : List ℕ → Parsed (A ⊎ B)
+  altParse [] = fail
+  altParse (x ∷ s) = altPick (p x) (x ∷ s)
+
+  alt-pick-only : (c : Bool) (s : List ℕ) (a : A ⊎ B) (r : List ℕ) → altPick c s ≡ got a r → altOk a × (s ≡ altPrint a ++ r)
+  alt-pick-only true s a r e =
+      let i = map-inv {B = A ⊎ B} inl (F .parse s) a r e in
+      let h = F .only s (i .0) r (i .1) in
+      (subst altOk (i .2) (h .0), h .1 ∙ ap (λ (b : A ⊎ B). altPrint b ++ r) (i .2))
+  alt-pick-only false s a r e =
+      let i = map-inv {B = A ⊎ B} inr (G .parse s) a r e in
+      let h = G .only s (i .0) r (i .1) in
+      (subst altOk (i .2) (h .0), h .1 ∙ ap (λ (b : A ⊎ B). altPrint b ++ r) (i .2))
+
+  pub alt-only : (s : List ℕ) (a : A ⊎ B) (r : List ℕ) → altParse s ≡ got a r → altOk a × (s ≡ altPrint a ++ r)
+  alt-only [] a r e = absurd (fail-got _ a r refl e)
+  alt-only (x ∷ s) a r e = alt-pick-only (p x) (x ∷ s) a r e
+
+  alt-at : (s : List ℕ) (x : ℕ) (t : List ℕ) (v : Bool) → s ≡ x ∷ t → p x ≡ v → altParse s ≡ altPick v s
+  alt-at s x t v e h = rw (e, h)
+
+  pub alt-back : Heads F p true → Heads G p false → (a : A ⊎ B) (r : List ℕ) → altOk a → altParse (altPrint a ++ r) ≡ got a r
+  alt-back hf hg (inl a) r h =
+      let w = hf a h in
+      alt-at (F .print a ++ r) (w .0) (w .1 ++ r) true (ap (λ (l : List ℕ). l ++ r) (w .2)) (w .3) ∙ rw (F .back a r h)
+  alt-back hf hg (inr b) r h =
+      let w = hg b h in
+      alt-at (G .print b ++ r) (w .0) (w .1 ++ r) false (ap (λ (l : List ℕ). l ++ r) (w .2)) (w .3) ∙ rw (G .back b r h)
+
+  abbrev pub alt : Heads F p true → Heads G p false → Format (A ⊎ B)
+  alt hf hg = record { Ok = altOk; print = altPrint; parse = altParse; back = alt-back hf hg; only = alt-only }
+
+-- ---- the first numbers that a format prints
+
+pub heads-tag : {A : Type 0} (k : ℕ) (F : Format A) (p : ℕ → Bool) (v : Bool) → p k ≡ v → Heads (tag k F) p v
+heads-tag k F p v h a ok = (k, F .print a, refl, h)
+
+pub heads-number : (n : ℕ) (p : ℕ → Bool) (v : Bool) → ((x : ℕ) → x < n → p x ≡ v) → Heads (number n) p v
+heads-number n p v h a ok = (a, [], refl, h a ok)
+
+pub heads-code : {A : Type 0} (code : A → ℕ) (p : ℕ → Bool) (v : Bool) → ((a : A) → p (code a) ≡ v)
+    → (a : A) → Unit {0} → (x : ℕ) × (t : List ℕ) × (code a ∷ [] ≡ x ∷ t) × (p x ≡ v)
+heads-code code p v h a ok = (code a, [], refl, h a)
+
+pub heads-iso : {A B : Type 0} (F : Format B) (f : A → B) (p : ℕ → Bool) (v : Bool) → Heads F p v
+    → (a : A) → F .Ok (f a) → (x : ℕ) × (t : List ℕ) × (F .print (f a) ≡ x ∷ t) × (p x ≡ v)
+heads-iso F f p v h a ok = h (f a) ok
+
+pub heads-alt : {A B : Type 0} (q : ℕ → Bool) (F : Format A) (G : Format B) (p : ℕ → Bool) (v : Bool) → Heads F p v → Heads G p v
+    → (a : A ⊎ B) → altOk q F G a → (x : ℕ) × (t : List ℕ) × (altPrint q F G a ≡ x ∷ t) × (p x ≡ v)
+heads-alt q F G p v hf hg (inl a) ok = hf a ok
+heads-alt q F G p v hf hg (inr b) ok = hg b ok
+
+pub heads-pair : {A B : Type 0} (F : Format A) (G : Format B) (p : ℕ → Bool) (v : Bool) → Heads F p v → Heads (pair F G) p v
+heads-pair F G p v h q ok =
+    let w = h (q .0) (ok .0) in
+    (w .0, w .1 ++ G .print (q .1), ap (λ (l : List ℕ). l ++ G .print (q .1)) (w .2), w .3)
+
+-- ---- what may be missing, behind a flag: 0 and an unused 0, or 1 and the value
+
+module _ {A : Type 0} (F : Format A) where
+  abbrev pub optTo : Option A → Unit {0} ⊎ A
+  optTo none = inl tt
+  optTo (some a) = inr a
+
+  abbrev pub optOf : Unit {0} ⊎ A → Option A
+  optOf (inl u) = none
+  optOf (inr a) = some a
+
+  pub opt-of-to : (o : Option A) → optOf (optTo o) ≡ o
+  opt-of-to none = refl
+  opt-of-to (some a) = refl
+
+  pub opt-to-of : (w : Unit {0} ⊎ A) → optTo (optOf w) ≡ w
+  opt-to-of (inl u) = refl
+  opt-to-of (inr a) = refl
+
+  abbrev pub opt : Format (Option A)
+  opt =
+      iso (alt (is 0) (tag 0 (lit 0)) (tag 1 F) (heads-tag 0 (lit 0) (is 0) true refl) (heads-tag 1 F (is 0) false refl))
+      optTo optOf opt-of-to opt-to-of
+
+-- ---- k and a value, or nothing, in front of what does not begin with k: alone it would be no format
+
+module _ {A B : Type 0} (k : ℕ) (F : Format A) (G : Format B) where
+  abbrev pub preTo : Option A → B → (A × B) ⊎ B
+  preTo none b = inr b
+  preTo (some a) b = inl (a, b)
+
+  abbrev pub preOf : (A × B) ⊎ B → Option A × B
+  preOf (inl p) = (some (p .0), p .1)
+  preOf (inr b) = (none, b)
+
+  pub pre-of-to : (o : Option A) (b : B) → preOf (preTo o b) ≡ (o, b)
+  pre-of-to none b = refl
+  pre-of-to (some a) b = refl
+
+  pub pre-to-of : (w : (A × B) ⊎ B) → preTo (preOf w .0) (preOf w .1) ≡ w
+  pre-to-of (inl p) = refl
+  pre-to-of (inr b) = refl
+
+  abbrev pub pre : Heads G (is k) false → Format (Option A × B)
+  pre h =
+      iso (alt (is k) (tag k (pair F G)) G (heads-tag k (pair F G) (is k) true (is-self k)) h)
+      (λ p. preTo (p .0) (p .1)) preOf (λ p. pre-of-to (p .0) (p .1)) pre-to-of
+
+  pub heads-pre : (h : Heads G (is k) false) (p : ℕ → Bool) (v : Bool) → p k ≡ v → Heads G p v → Heads (pre h) p v
+  heads-pre h p v a g o ok = heads-alt (is k) (tag k (pair F G)) G p v (heads-tag k (pair F G) p v a) g (preTo (o .0) (o .1)) ok
+
+-- ---- the same with nothing behind k: a mark that is there or not
+
+abbrev pub markTo : Bool → Option (Unit {0})
+markTo true = some tt
+markTo false = none
+
+abbrev pub markOf : Option (Unit {0}) → Bool
+markOf none = false
+markOf (some u) = true
+
+mark-of-to : (b : Bool) → markOf (markTo b) ≡ b
+mark-of-to true = refl
+mark-of-to false = refl
+
+mark-to-of : (o : Option (Unit {0})) → markTo (markOf o) ≡ o
+mark-to-of none = refl
+mark-to-of (some u) = refl
+
+module _ {B : Type 0} (k : ℕ) (G : Format B) where
+  pub marked-to-of : (p : Option (Unit {0}) × B) → _≡_ {A = Option (Unit {0}) × B} (markTo (markOf (p .0)), p .1) p
+  marked-to-of p = λ i. (mark-to-of (p .0) i, p .1)
+
+  pub marked-of-to : (p : Bool × B) → _≡_ {A = Bool × B} (markOf (markTo (p .0)), p .1) p
+  marked-of-to p = λ i. (mark-of-to (p .0) i, p .1)
+
+  abbrev pub marked : Heads G (is k) false → Format (Bool × B)
+  marked h = iso (pre k empty G h) (λ p. (markTo (p .0), p .1)) (λ p. (markOf (p .0), p .1)) marked-of-to marked-to-of
+
+  pub heads-marked : (h : Heads G (is k) false) (p : ℕ → Bool) (v : Bool) → p k ≡ v → Heads G p v → Heads (marked h) p v
+  heads-marked h p v a g o ok = heads-pre k empty G h p v a g (markTo (o .0), o .1) ok

@@ -1,0 +1,129 @@
+-- Appending to a lent buffer: the count and the lowest refusal are those of all that was appended, and where all of it fits its bytes stand at the front.
+-- Assumes nothing.
+use mathlib.Core.Path.{_≡_, refl, sym, _∙_, ap, subst}
+use mathlib.Core.List.{List, [], _∷_, _++_, append-assoc, append-nil}
+use Prim.Native.Nat.{ℕ, _+_, _-_, _≤_, min}
+use native.Mathlib.Omega.{arith}
+use lib.ListN.{length, getD, take, drop, set, length-append, length-drop, length-set}
+use lib.Seq.{set-append-seam, take-at, drop-at, drop-drop}
+use borrow.Rule.Slice.PartMut.{putMid, midOf, same-len-mid}
+use Rattle.format.specs.Read.{drop-more}
+use Rattle.format.specs.Write.{over, Writes, wrote, rest-lent, rest-back}
+use Rattle.format.specs.declared.Written.{Written}
+use Rattle.format.specs.declared.Done.{Done}
+
+-- 65,537 stands for all that is more than 65,536
+abbrev pub counted : ℕ → ℕ
+counted n = min n 65537
+
+abbrev pub lowered : Done → ℕ → Done
+lowered s k = record { n = s .n; low = min (s .low) k }
+
+-- p was appended to a buffer that held old and now holds out; l is the lowest refusal (9: none)
+pub record Has (p : List ℕ) (l : ℕ) (old out : List ℕ) (s : Done) : Type 0 where
+  pub count : s .n ≡ counted (length p)
+  pub lowest : s .low ≡ l
+  pub small : l ≤ 9
+  pub kept : length out ≡ length old
+  pub bytes : length p ≤ 65536 → length p ≤ length old → out ≡ over p old
+
+-- q is appended, with the refusal m, whatever was appended before
+pub record Adds (q : List ℕ) (m : ℕ) (before : List ℕ) (s : Done) (after : List ℕ) (t : Done) : Type 0 where
+  pub more : (p : List ℕ) (l : ℕ) (old : List ℕ) → Has p l old before s → Has (p ++ q) (min l m) old after t
+
+pub has-eq : {p q : List ℕ} {l m : ℕ} {old out : List ℕ} {s : Done} → p ≡ q → l ≡ m → Has p l old out s → Has q m old out s
+has-eq {p} {q} {l} {m} {old} {out} {s} e f h = subst (λ (x : List ℕ). Has x m old out s) e (subst (λ (k : ℕ). Has p k old out s) f h)
+
+pub adds-eq : {p q : List ℕ} {l m : ℕ} {a b : List ℕ} {s t : Done} → p ≡ q → l ≡ m → Adds p l a s b t → Adds q m a s b t
+adds-eq {p} {q} {l} {m} {a} {b} {s} {t} e f h = subst (λ (x : List ℕ). Adds x m a s b t) e (subst (λ (k : ℕ). Adds p k a s b t) f h)
+
+pub min-assoc : (a b c : ℕ) → min (min a b) c ≡ min a (min b c)
+min-assoc a b c = omega arith
+
+-- ---- one after the other
+
+pub adds-nil : (a : List ℕ) (s : Done) → Adds [] 9 a s a s
+adds-nil a s = record { more = go }
+  where
+    go : (p : List ℕ) (l : ℕ) (old : List ℕ) → Has p l old a s → Has (p ++ []) (min l 9) old a s
+    go p l old h = let i : l ≤ 9 = h .small in has-eq (sym (append-nil p)) (omega arith) h
+
+pub adds-seq : {p q : List ℕ} {l m : ℕ} {a b c : List ℕ} {s t u : Done} → Adds p l a s b t → Adds q m b t c u → Adds (p ++ q) (min l m) a s c u
+adds-seq {p} {q} {l} {m} {a} {b} {c} {s} {t} {u} x y =
+    record { more = λ r k old h. has-eq (append-assoc r p q) (min-assoc k l m) (y .more (r ++ p) (min k l) old (x .more r k old h)) }
+
+-- a refusal is drawn too
+pub adds-low : {q : List ℕ} {m : ℕ} {a : List ℕ} {s : Done} {b : List ℕ} {t : Done} (k : ℕ) → Adds q m a s b t → Adds q (min m k) a s b (lowered t k)
+adds-low {q} {m} {a} {s} {b} {t} k x = record { more = go }
+  where
+    go : (p : List ℕ) (l : ℕ) (old : List ℕ) → Has p l old a s → Has (p ++ q) (min l (min m k)) old b (lowered t k)
+    go p l old h =
+        let g = x .more p l old h in
+        let e : t .low ≡ min l m = g .lowest in
+        let i : l ≤ 9 = h .small in
+        record { count = g .count; lowest = omega arith; small = omega arith; kept = g .kept; bytes = g .bytes }
+
+-- ---- the start, where nothing has been appended yet, and the end
+
+pub has-start : (old : List ℕ) (s : Done) → s .n ≡ 0 → s .low ≡ 9 → Has [] 9 old old s
+has-start old s e f = record { count = e; lowest = f; small = omega arith; kept = refl; bytes = λ h k. refl }
+
+pub adds-fresh : {q : List ℕ} {m : ℕ} {old new : List ℕ} {s t : Done} → Adds q m old s new t → s .n ≡ 0 → s .low ≡ 9 → m ≤ 9 → Has q m old new t
+adds-fresh {q} {m} {old} {new} {s} x e f h = has-eq refl (omega arith) (x .more [] 9 old (has-start old s e f))
+
+-- ---- a leaf: it is counted, and where all fits it leaves its bytes behind those before
+
+module _ (b out new : List ℕ) (s t : Done) (n : t .n ≡ counted (s .n + length b)) (f : t .low ≡ s .low) (k : length new ≡ length out) where
+  leaf-has : ((p old : List ℕ) → s .n ≡ length p → length p + length b ≤ length out → length out ≡ length old → out ≡ over p old → new ≡ over (p ++ b) old)
+      → (p : List ℕ) (l : ℕ) (old : List ℕ) → Has p l old out s → Has (p ++ b) (min l 9) old new t
+  leaf-has w p l old h =
+      let c : s .n ≡ min (length p) 65537 = h .count in
+      let o : length out ≡ length old = h .kept in
+      let e : s .low ≡ l = h .lowest in
+      let i : l ≤ 9 = h .small in
+      let long : length (p ++ b) ≡ length p + length b = length-append p b in
+      record {
+        count = omega arith;
+        lowest = omega arith;
+        small = omega arith;
+        kept = k ∙ o;
+        bytes = λ u v. w p old (omega arith) (omega arith) o (h .bytes (omega arith) (omega arith));
+      }
+
+  pub adds-leaf : ((p old : List ℕ) → s .n ≡ length p → length p + length b ≤ length out → length out ≡ length old → out ≡ over p old → new ≡ over (p ++ b) old)
+      → Adds b 9 out s new t
+  adds-leaf w = record { more = leaf-has w }
+
+-- b over what stands behind p
+behind : (p b old : List ℕ) → p ++ over b (drop (length p) old) ≡ over (p ++ b) old
+behind p b old = rw (drop-drop, length-append, append-assoc)
+
+-- a writer was lent the part from the current end on
+pub adds-part : (b out part : List ℕ) {r : Written} (s t : Done) (at : ℕ) → at ≡ min (s .n) (length out) → t .n ≡ counted (s .n + length b) → t .low ≡ s .low
+    → length part ≡ length (midOf at (length out - at) out) → Writes b (midOf at (length out - at) out) part r
+    → Adds b 9 out s (putMid at (length out - at) out part) t
+adds-part b out part {r} s t at is n f k w = adds-leaf b out (putMid at (length out - at) out part) s t n f (same-len-mid at (length out - at) out part k) go
+  where
+    go : (p old : List ℕ) → s .n ≡ length p → length p + length b ≤ length out → length out ≡ length old → out ≡ over p old
+        → putMid at (length out - at) out part ≡ over (p ++ b) old
+    go p old e room o d =
+        let v : Writes b (drop at out) part r = rw rest-lent at w in
+        let l : at ≡ length p = omega arith in
+        let front : take at out ≡ p = rw d (take-at p (drop (length p) old) at (sym l)) in
+        let rest : drop at out ≡ drop (length p) old = rw d (drop-at p (drop (length p) old) at (sym l)) in
+        let fits : length b ≤ length (drop at out) = simp length-drop (omega arith) in
+        rw (rest-back at out part (omega arith), front, wrote v fits .1, rest) (behind p b old)
+
+-- one number, by a store at the current end
+pub adds-set : (x : ℕ) (out : List ℕ) (s t : Done) → t .n ≡ counted (s .n + 1) → t .low ≡ s .low → Adds (x ∷ []) 9 out s (set out (s .n) x) t
+adds-set x out s t n f = adds-leaf (x ∷ []) out (set out (s .n) x) s t n f (length-set out (s .n) x) go
+  where
+    go : (p old : List ℕ) → s .n ≡ length p → length p + 1 ≤ length out → length out ≡ length old → out ≡ over p old → set out (s .n) x ≡ over (p ++ (x ∷ [])) old
+    go p old e r o d =
+        let m : drop (length p) old ≡ getD old (length p) 0 ∷ drop (length p + 1) old = drop-more old (length p) (omega arith) in
+        let q : out ≡ p ++ (getD old (length p) 0 ∷ drop (length p + 1) old) = d ∙ ap (λ (l : List ℕ). p ++ l) m in
+        rw (e, q, set-append-seam p (getD old (length p) 0) (drop (length p + 1) old) x, length-append p (x ∷ []), append-assoc p (x ∷ []) (drop (length p + 1) old))
+
+-- there is no room for it
+pub adds-past : (x : ℕ) (out : List ℕ) (s t : Done) → t .n ≡ counted (s .n + 1) → t .low ≡ s .low → length out ≤ s .n → Adds (x ∷ []) 9 out s out t
+adds-past x out s t n f h = adds-leaf (x ∷ []) out out s t n f refl (λ p old e r o d. absurd (omega arith))

@@ -1,0 +1,84 @@
+-- Reading at a place of a slice: what stands from there on, what a reader answers, and what its answer tells. Assumes nothing.
+use mathlib.Core.Path.{_≡_, refl, sym, _∙_, ap}
+use mathlib.Core.List.{List, [], _∷_, _++_, append-assoc}
+use Prim.Native.Nat.{ℕ, _+_, _-_, _<_, _≤_}
+use native.Mathlib.Numerals.{add-one}
+use native.Mathlib.Omega.{arith}
+use lib.ListN.{length, getD, take, drop, length-append, length-drop, take-append-drop, drop-of-length-le}
+use lib.Seq.{drop-cons, drop-append-seam}
+use Rattle.format.specs.Parsed.{Parsed, fail, got}
+use Rattle.format.specs.Format.{Format}
+
+-- ---- what stands from a place on
+
+pub drop-more : (s : List ℕ) (n : ℕ) → n < length s → drop n s ≡ getD s n 0 ∷ drop (n + 1) s
+drop-more s n h = rw (add-one n) (drop-cons s n 0 h)
+
+pub drop-end : (s : List ℕ) (n : ℕ) → length s ≤ n → drop n s ≡ []
+drop-end s n h = drop-of-length-le s h
+
+-- the place of what is left
+abbrev pub placeOf : List ℕ → List ℕ → ℕ
+placeOf s r = length s - length r
+
+pub place-at : (s : List ℕ) (n : ℕ) → n ≤ length s → placeOf s (drop n s) ≡ n
+place-at s n h = rw (length-drop n s) (omega arith)
+
+-- what a format leaves is what stands from its place on
+pub rest-at : {A : Type 0} (F : Format A) (s : List ℕ) (at : ℕ) (a : A) (t : List ℕ) → F .parse (drop at s) ≡ got a t
+    → (t ≡ drop (placeOf s t) s) × (placeOf s t ≤ length s)
+rest-at F s at a t e =
+    let q = take at s ++ F .print a in
+    let d : drop at s ≡ F .print a ++ t = F .only (drop at s) a t e .1 in
+    let se : s ≡ q ++ t = sym (take-append-drop at s) ∙ ap (λ (l : List ℕ). take at s ++ l) d ∙ sym (append-assoc (take at s) (F .print a) t) in
+    let l : length s ≡ length q + length t = ap length se ∙ length-append q t in
+    let n : placeOf s t ≡ length q = omega arith in
+    (sym (rw n (ap (drop (length q)) se ∙ drop-append-seam q t)), omega arith)
+
+-- ---- answers
+
+-- document 01, Answers by number: a number of the table, the value and where it ended, both 0 beside a refusal
+pub record Outcome (A : Type 0) : Type 0 where
+  pub number : ℕ
+  pub value : A
+  pub place : ℕ
+
+abbrev pub found : {A : Type 0} → A → ℕ → Outcome A
+found a p = record { number = 0; value = a; place = p }
+
+-- 11: nothing of that kind begins the bytes. `zero` is A's 0
+abbrev pub nothing : {A : Type 0} → A → Outcome A
+nothing zero = record { number = 11; value = zero; place = 0 }
+
+-- what is right where m was read of s
+abbrev pub reading : {A : Type 0} → A → List ℕ → Parsed A → Outcome A
+reading zero s fail = nothing zero
+reading zero s (got a r) = found a (placeOf s r)
+
+module _ {A : Type 0} (zero : A) (s : List ℕ) where
+  -- how a reader meets its contract
+  pub reads : {m : Parsed A} {a : A} {p : ℕ} → m ≡ got a (drop p s) → p ≤ length s → found a p ≡ reading zero s m
+  reads {m} {a} {p} e h = rw (e, place-at s p h)
+
+  pub reads-not : {m : Parsed A} → m ≡ fail → nothing zero ≡ reading zero s m
+  reads-not e = rw e
+
+  -- what its answer tells
+  pub told-found : (F : Format A) (at : ℕ) {a : A} {p : ℕ} → found a p ≡ reading zero s (F .parse (drop at s))
+      → (F .parse (drop at s) ≡ got a (drop p s)) × (p ≤ length s)
+  told-found F at {a} {p} w = go (F .parse (drop at s)) refl w
+    where
+      go : (m : Parsed A) → F .parse (drop at s) ≡ m → found a p ≡ reading zero s m → (F .parse (drop at s) ≡ got a (drop p s)) × (p ≤ length s)
+      go fail e w = let z : _≡_ {A = ℕ} 0 11 = ap (λ (o : Outcome A). o .number) w in absurd (omega arith)
+      go (got b t) e w =
+          let ab : a ≡ b = ap (λ (o : Outcome A). o .value) w in
+          let pt : p ≡ placeOf s t = ap (λ (o : Outcome A). o .place) w in
+          let ra = rest-at F s at b t e in
+          (rw (e, ab, pt) (ap (λ (l : List ℕ). got b l) (ra .0)), rw pt (ra .1))
+
+  pub told-nothing : {m : Parsed A} → nothing zero ≡ reading zero s m → m ≡ fail
+  told-nothing {m} w = go m w
+    where
+      go : (m : Parsed A) → nothing zero ≡ reading zero s m → m ≡ fail
+      go fail w = refl
+      go (got b t) w = let z : _≡_ {A = ℕ} 11 0 = ap (λ (o : Outcome A). o .number) w in absurd (omega arith)

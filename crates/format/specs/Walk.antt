@@ -1,0 +1,70 @@
+-- A walk: it reads a value by a format at a place and appends what is to be written of it. Assumes nothing.
+use mathlib.Core.Path.{_≡_, refl, sym, _∙_, ap, subst}
+use mathlib.Core.List.{List, _++_}
+use Prim.Native.Nat.{ℕ, _≤_, min}
+use native.Mathlib.Omega.{arith}
+use lib.ListN.{length, drop}
+use Rattle.format.specs.Parsed.{Parsed, fail, got, map}
+use Rattle.format.specs.Format.{Format}
+use Rattle.format.specs.Read.{placeOf, place-at, rest-at}
+use Rattle.format.specs.Count.{Adds, adds-seq, adds-eq}
+use Rattle.format.specs.declared.Done.{Done}
+use Rattle.format.specs.declared.Walk.{Walk}
+use Rattle.format.specs.declared.Walk.the-variants as walks
+
+-- f: what is written of a value; g: the lowest refusal that it draws
+abbrev pub Walked : {A : Type 0} → (A → List ℕ) → (A → ℕ) → List ℕ → Parsed A → List ℕ → Done → List ℕ → Walk → Type 0
+Walked f g w fail old s new r = r ≡ walks.No
+Walked f g w (got a t) old s new r = (u : Done) × (r ≡ walks.Got (placeOf w t) u) × Adds (f a) (g a) old s new u
+
+abbrev pub Walks : {A : Type 0} → Format A → (A → List ℕ) → (A → ℕ) → List ℕ → ℕ → List ℕ → Done → List ℕ → Walk → Type 0
+Walks W f g w at old s new r = Walked f g w (W .parse (drop at w)) old s new r
+
+module _ {A : Type 0} (W : Format A) (f : A → List ℕ) (g : A → ℕ) (w : List ℕ) (at : ℕ) (old : List ℕ) (s : Done) (new : List ℕ) where
+  pub walks-no : W .parse (drop at w) ≡ fail → Walks W f g w at old s new walks.No
+  walks-no e = rw e refl
+
+  pub walks-got : (a : A) (p : ℕ) (u : Done) → W .parse (drop at w) ≡ got a (drop p w) → p ≤ length w → Adds (f a) (g a) old s new u → Walks W f g w at old s new (walks.Got p u)
+  walks-got a p u e h d = rw e (u, rw (place-at w p h), d)
+
+  pub no-walks : (r : Walk) → Walks W f g w at old s new r → r ≡ walks.No → W .parse (drop at w) ≡ fail
+  no-walks r h e = go (W .parse (drop at w)) h
+    where
+      go : (m : Parsed A) → Walked f g w m old s new r → m ≡ fail
+      go fail h = refl
+      go (got a t) h = let z : _≡_ {A = ℕ} 0 1 = cc (h .1) in absurd (omega arith)
+
+  pub record Gone (p : ℕ) (u : Done) : Type 0 where
+    pub value : A
+    pub read : W .parse (drop at w) ≡ got value (drop p w)
+    pub place : p ≤ length w
+    pub adds : Adds (f value) (g value) old s new u
+
+  pub got-walks : (r : Walk) (p : ℕ) (u : Done) → Walks W f g w at old s new r → r ≡ walks.Got p u → Gone p u
+  got-walks r p u h e = go (W .parse (drop at w)) refl h
+    where
+      go : (m : Parsed A) → W .parse (drop at w) ≡ m → Walked f g w m old s new r → Gone p u
+      go fail q h = let z : _≡_ {A = ℕ} 0 1 = cc in absurd (omega arith)
+      go (got a t) q h =
+          let x : walks.Got (placeOf w t) (h .0) ≡ walks.Got p u = sym (h .1) ∙ e in
+          let pe : placeOf w t ≡ p = cc in
+          let ue : h .0 ≡ u = cc in
+          let ra = rest-at W w at a t q in
+          record {
+            value = a;
+            read = q ∙ ap (λ (l : List ℕ). got a l) (ra .0) ∙ ap (λ (k : ℕ). got a (drop k w)) pe;
+            place = subst (λ (k : ℕ). k ≤ length w) pe (ra .1);
+            adds = subst (λ (v : Done). Adds (f a) (g a) old s new v) ue (h .2);
+          }
+
+-- a walk whose first part is done already: pre was appended, and what is left is another walk's
+pub walks-tail : {A B : Type 0} (W : Format A) (f : A → List ℕ) (g : A → ℕ) (X : Format B) (f′ : B → List ℕ) (g′ : B → ℕ) (h : A → B) (pre : List ℕ) (l : ℕ) (w : List ℕ) (at at′ : ℕ)
+    (old : List ℕ) (s : Done) (cur : List ℕ) (t : Done) (new : List ℕ) (r : Walk)
+    → X .parse (drop at′ w) ≡ map h (W .parse (drop at w)) → ((a : A) → pre ++ f a ≡ f′ (h a)) → ((a : A) → min l (g a) ≡ g′ (h a))
+    → Adds pre l old s cur t → Walks W f g w at cur t new r → Walks X f′ g′ w at′ old s new r
+walks-tail {A} {B} W f g X f′ g′ h pre l w at at′ old s cur t new r e ef eg a x =
+    subst (λ (m : Parsed B). Walked f′ g′ w m old s new r) (sym e) (go (W .parse (drop at w)) x)
+  where
+    go : (m : Parsed A) → Walked f g w m cur t new r → Walked f′ g′ w (map h m) old s new r
+    go fail x = x
+    go (got v q) x = (x .0, x .1, adds-eq (ef v) (eg v) (adds-seq a (x .2)))

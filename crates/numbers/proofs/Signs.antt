@@ -1,0 +1,72 @@
+-- What the code makes of a signed number's bits, at 64 of them: its sign, its magnitude, and the number again. Assumes nothing.
+use mathlib.Core.Path.{_≡_, refl, ap, _∙_}
+use mathlib.Core.Bool.{Bool, true, false}
+use Prim.Native.Nat.{ℕ, suc, _-_, _<_, _^_, zero-le}
+use native.Mathlib.Omega.{arith}
+use lib.Dec.{T}
+use lib.IntN.{ℤ, pos, negsuc, natAbs}
+use lib.Signed.{mag, ltZ, nonNeg}
+use borrow.Author.Tests.{ltb-true, le-ltb}
+use mir.Syntax.{Width, w32, w64}
+use mir.Val.{Fits, SFits, hbits, toZ, ofZ}
+use mir.Facts.{toZ-pos, toZ-neg, toZ-ofZ, sfits-widen}
+use Rattle.numbers.specs.Answers.{bySign}
+
+pub mag-sign : (neg : Bool) (a : ℕ) → mag (bySign neg a) ≡ a
+mag-sign true a = refl
+mag-sign false a = refl
+
+-- a number is its sign and its magnitude
+pub sign-mag : (v : ℤ) → bySign (ltZ v (pos 0)) (mag v) ≡ v
+sign-mag (pos a) = rw (le-ltb a 0 zero-le)
+sign-mag (negsuc a) = refl
+
+-- the bits of a negative number turned over
+turned : (v : ℤ) → SFits w64 v → ltZ v (pos 0) ≡ true → toZ w64 (2 ^ 64 - 1 - ofZ w64 v) ≡ pos (mag v)
+turned (pos a) f e = let h : a < 0 = ltb-true a 0 e in absurd (omega arith)
+turned (negsuc a) f e =
+    let back : 2 ^ 64 - 1 - (2 ^ 64 - suc a) ≡ a = omega arith in
+    rw back (toZ-pos w64 (f .sfits))
+
+-- a number that is not negative
+same : (v : ℤ) → SFits w64 v → ltZ v (pos 0) ≡ false → toZ w64 (ofZ w64 v) ≡ pos (mag v)
+same (pos a) f e = toZ-ofZ f
+same (negsuc a) f e = cc
+
+module _ (v : ℤ) (f : SFits w64 v) where
+  -- a number that is read out of the bits z as v's magnitude can be cast to a u64, and is then that magnitude
+  casts : (z : ℤ) → z ≡ pos (mag v) → T (nonNeg z) × Fits w64 (natAbs z)
+  casts z e = rw e (tt, record { fits = omega (arith, f .sfits) })
+
+  pub cast-turned : ltZ (toZ w64 (ofZ w64 v)) (pos 0) ≡ true → T (nonNeg (toZ w64 (2 ^ 64 - 1 - ofZ w64 v))) × Fits w64 (natAbs (toZ w64 (2 ^ 64 - 1 - ofZ w64 v)))
+  cast-turned e = casts _ (turned v f (rw (toZ-ofZ f) at e))
+
+  pub cast-same : ltZ (toZ w64 (ofZ w64 v)) (pos 0) ≡ false → T (nonNeg (toZ w64 (ofZ w64 v))) × Fits w64 (natAbs (toZ w64 (ofZ w64 v)))
+  cast-same e = casts _ (same v f (rw (toZ-ofZ f) at e))
+
+  pub mag-turned : ltZ (toZ w64 (ofZ w64 v)) (pos 0) ≡ true → natAbs (toZ w64 (2 ^ 64 - 1 - ofZ w64 v)) ≡ mag v
+  mag-turned e = ap natAbs (turned v f (rw (toZ-ofZ f) at e))
+
+  pub mag-same : ltZ (toZ w64 (ofZ w64 v)) (pos 0) ≡ false → natAbs (toZ w64 (ofZ w64 v)) ≡ mag v
+  mag-same e = ap natAbs (same v f (rw (toZ-ofZ f) at e))
+
+-- a number of 32 bits, cast to 64
+pub widened : (v : ℤ) → SFits w32 v → toZ w64 (ofZ w64 (toZ w32 (ofZ w32 v))) ≡ v
+widened v f = ap (λ (z : ℤ). toZ w64 (ofZ w64 z)) (toZ-ofZ f) ∙ toZ-ofZ (sfits-widen tt f)
+
+-- the bits of a magnitude turned over
+pub toZ-turned : (a : ℕ) → a < 2 ^ 63 → toZ w64 (2 ^ 64 - 1 - a) ≡ negsuc a
+toZ-turned a h = let e : 2 ^ 64 - 1 - a ≡ 2 ^ 64 - suc a = omega arith in rw e (toZ-neg w64 a h)
+
+-- a number of a sign and a magnitude, as it is returned, and as it is cast to 32 bits and returned
+sign-fits : (w : Width) (neg : Bool) (a : ℕ) → a < 2 ^ hbits w → SFits w (bySign neg a)
+sign-fits w neg a h = record { sfits = rw (mag-sign neg a) h }
+
+pub back64 : {r : ℤ} (neg : Bool) (a : ℕ) → r ≡ bySign neg a → a < 2 ^ 63 → toZ w64 (ofZ w64 r) ≡ bySign neg a
+back64 neg a e h = rw e (toZ-ofZ (sign-fits w64 neg a h))
+
+pub cast32 : {r : ℤ} (neg : Bool) (a : ℕ) → r ≡ bySign neg a → a < 2 ^ 31 → SFits w32 (toZ w64 (ofZ w64 r))
+cast32 neg a e h = rw (back64 neg a e (omega arith)) (sign-fits w32 neg a h)
+
+pub back32 : {r : ℤ} (neg : Bool) (a : ℕ) → r ≡ bySign neg a → a < 2 ^ 31 → toZ w32 (ofZ w32 (toZ w64 (ofZ w64 r))) ≡ bySign neg a
+back32 neg a e h = rw (back64 neg a e (omega arith)) (toZ-ofZ (sign-fits w32 neg a h))

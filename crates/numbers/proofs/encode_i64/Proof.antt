@@ -1,0 +1,32 @@
+use mathlib.Core.Path.{_≡_}
+use mir.Syntax.{w64}
+use mir.Val.{toZ, ofZ}
+use mir.Facts.{toZ-ofZ}
+use Rattle.numbers.specs.Answers.{bySign}
+use Rattle.numbers.proofs.Signs.{sign-mag}
+use borrow.Author.Needs.{needs}
+use Rattle.numbers.proofs.encode_i64.Statement.{statement}
+use Rattle.numbers.proofs.encode_i64.Tie as tie
+
+negative-requires : tie.Need-negative-requires
+negative-requires c κs = search needs
+
+magnitude-requires : tie.Need-magnitude-requires
+magnitude-requires c κs = search needs
+
+encode-requires : tie.Need-encode-requires
+encode-requires c κs = search needs
+
+same-length : tie.Need-same-length
+same-length c = search needs
+
+returns : tie.Need-returns
+returns c =
+    let v = c .before .before .before .before .before .before .before .args .v in
+    let e : bySign (c .before .before .before .before .before .negative .result) (c .before .before .before .before .magnitude .result) ≡ v =
+    cc (sign-mag (toZ w64 (ofZ w64 v)), toZ-ofZ (c .before .before .before .before .before .before .before .fits .v)) in
+    rw (← e) (c .before .before .encode .ensures)
+
+pub encode-i64-spec : {M : Type 1} → statement M
+encode-i64-spec =
+    tie.close (tie.spec negative-requires magnitude-requires encode-requires same-length returns)

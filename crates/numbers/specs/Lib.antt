@@ -1,0 +1,6 @@
+pub mod Integers
+pub mod Leb
+pub mod LebLaws
+pub mod Standard
+pub mod Formats
+pub mod Answers
