@@ -74,6 +74,11 @@ writes {b} {xs} {ys} {n} h e m = record { right = rw (writing-fits b xs h, e, m)
 pub writes-not : {b xs : List ℕ} → length xs < length b → Writes b xs xs Short
 writes-not {b} {xs} h = record { right = sym (writing-short b xs h) }
 
+-- one byte, by a store
+pub write-one : (b : ℕ) (xs : List ℕ) → 0 < length xs → Writes (b ∷ []) xs (set xs 0 b) (Length 1)
+write-one b [] h = absurd (omega arith)
+write-one b (x ∷ xs) h = writes (omega arith) refl refl
+
 -- what a writer did, where there is room
 pub wrote : {b xs ys : List ℕ} {r : Written} → Writes b xs ys r → length b ≤ length xs → (r ≡ Length (length b)) × (ys ≡ over b xs)
 wrote w h = one-outcome w (writes h refl refl)

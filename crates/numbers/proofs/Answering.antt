@@ -1,14 +1,14 @@
 -- From a number by its sign and its magnitude to the answer of each reader. Assumes nothing.
-use mathlib.Core.Path.{_≡_, refl, ap, _∙_}
+use mathlib.Core.Path.{_≡_, refl, sym, ap, _∙_}
 use mathlib.Core.Bool.{Bool, true, false}
 use mathlib.Core.List.{List}
 use Prim.Native.Nat.{ℕ, _-_, _≤_, _<_, _^_}
 use native.Mathlib.Omega.{arith}
 use borrow.Author.Tests.{ltb-true, lt-ltb, le-ltb}
-use lib.IntN.{pos}
+use lib.IntN.{ℤ, pos, negsuc}
 use lib.ListN.{drop}
 use lib.Signed.{mag}
-use Rattle.format.specs.Parsed.{got}
+use Rattle.format.specs.Parsed.{Parsed, fail, got}
 use Rattle.format.specs.Read.{found, nothing, reading, placeOf}
 use Rattle.numbers.specs.Leb.{unsigned, signed, within, short}
 use Rattle.numbers.specs.Formats.{integer, natural, short-only}
@@ -16,7 +16,31 @@ use Rattle.numbers.specs.Answers.{bySign, partsOf}
 use Rattle.numbers.specs.declared.Parts.{Parts}
 use Rattle.numbers.specs.declared.Parts.the-variants.{Value, Nothing}
 use Rattle.numbers.proofs.Signs.{mag-sign}
-use Rattle.numbers.proofs.Reading.{said-value, said-nothing}
+
+-- ---- an answer, turned back into what was read
+
+parts-inv : (xs : List ℕ) (m : Parsed ℤ) (neg : Bool) (a p : ℕ) → partsOf xs m ≡ Value neg a p → (q : List ℕ) × (m ≡ got (bySign neg a) q) × (p ≡ placeOf xs q)
+parts-inv xs fail neg a p e = let z : _≡_ {A = ℕ} 0 1 = cc in absurd (omega arith)
+parts-inv xs (got (pos n) q) neg a p e =
+    let x : false ≡ neg = cc in
+    let y : n ≡ a = cc in
+    (q, rw (← x, y), cc)
+parts-inv xs (got (negsuc n) q) neg a p e =
+    let x : true ≡ neg = cc in
+    let y : n ≡ a = cc in
+    (q, rw (← x, y), cc)
+
+parts-none : (xs : List ℕ) (m : Parsed ℤ) → partsOf xs m ≡ Nothing → m ≡ fail
+parts-none xs fail e = refl
+parts-none xs (got (pos n) q) e = cc
+parts-none xs (got (negsuc n) q) e = cc
+
+module _ (xs : List ℕ) (m : Parsed ℤ) {r : Parts} (said : r ≡ partsOf xs m) where
+  pub said-value : {neg : Bool} {a p : ℕ} → r ≡ Value neg a p → (q : List ℕ) × (m ≡ got (bySign neg a) q) × (p ≡ placeOf xs q)
+  said-value {neg} {a} {p} e = parts-inv xs m neg a p (sym said ∙ e)
+
+  pub said-nothing : r ≡ Nothing → m ≡ fail
+  said-nothing e = parts-none xs m (sym said ∙ e)
 
 -- what is read, and what is to be answered
 module _ (s : Bool) (N : ℕ) (xs b : List ℕ) (neg : Bool) (a p : ℕ) (q : List ℕ) (e : short s N b ≡ got (bySign neg a) q) (at : p ≡ placeOf xs q) where

@@ -1,4 +1,5 @@
 pub mod Signs
 pub mod Writing
 pub mod Reading
+pub mod Loop
 pub mod Answering

@@ -3,7 +3,8 @@ use mathlib.Core.Path.{_≡_, refl, sym, _∙_}
 use mathlib.Core.Logic.{⊎-elim}
 use mathlib.Core.Bool.{Bool, true, false}
 use mathlib.Core.List.{[], _∷_}
-use Prim.Native.Nat.{ℕ, _+_, _-_, _/_, _%_, _≤_, _<_, _^_}
+use Prim.Native.Nat.{ℕ, _+_, _-_, _*_, _/_, _%_, _≤_, _<_, _^_}
+use native.Mathlib.Nat.{mod-eq-of-lt}
 use native.Mathlib.Omega.{arith}
 use lib.Bits.{bitAnd, bitOr, bitXor, and-mask, or-shifted-r, xor-zero-r, xor-add-and}
 use borrow.Author.Tests.{leb-true, leb-false}
@@ -14,20 +15,29 @@ use lib.Signed.{mag, shrZ}
 use Rattle.format.specs.Write.{fits-or}
 use Rattle.numbers.specs.Leb.{limit, low, leb}
 use Rattle.numbers.specs.LebLaws.{low-small, leb-last, leb-more, leb-some, limitOf, bytes-at-most, bytes-above}
-use Rattle.numbers.specs.Answers.{bySign, flipOf}
+use Rattle.numbers.specs.Answers.{bySign, onesOf}
 use Rattle.numbers.proofs.Signs.{mag-sign}
 
 -- ---- a group
 
-turn-over : (d : ℕ) → d < 128 → bitXor d 127 ≡ 127 - d
-turn-over d h =
-    let m : bitAnd d 127 ≡ d % 128 = and-mask d 7 in
-    let x : bitXor d 127 + bitAnd d 127 + bitAnd d 127 ≡ d + 127 = omega (arith, xor-add-and d 127) in
+-- k bits as they are, or turned over
+abbrev pub turnOf : Bool → ℕ → ℕ → ℕ
+turnOf false k x = x
+turnOf true k x = 2 ^ k - 1 - x
+
+pub turned : (neg : Bool) (k x : ℕ) → x < 2 ^ k → bitXor x (onesOf neg k) ≡ turnOf neg k x
+turned false k x h = xor-zero-r x
+turned true k x h =
+    let m : bitAnd x (2 ^ k - 1) ≡ x = and-mask x k ∙ mod-eq-of-lt h in
+    let s : bitXor x (2 ^ k - 1) + bitAnd x (2 ^ k - 1) * 2 ≡ x + (2 ^ k - 1) = xor-add-and x (2 ^ k - 1) in
     omega arith
 
-pub group : (neg : Bool) (w : ℕ) → bitXor (bitAnd w 127) (flipOf neg) ≡ low (bySign neg w)
-group false w = xor-zero-r (bitAnd w 127) ∙ and-mask w 7
-group true w = rw (and-mask w 7) (turn-over (w % 128) (omega arith))
+pub group : (neg : Bool) (w : ℕ) → bitXor (bitAnd w 127) (onesOf neg 7) ≡ low (bySign neg w)
+group neg w = rw (and-mask w 7) (turned neg 7 (w % 128) (omega arith) ∙ same neg)
+  where
+    same : (neg : Bool) → turnOf neg 7 (w % 128) ≡ low (bySign neg w)
+    same true = refl
+    same false = refl
 
 marked : (d : ℕ) → d < 128 → bitOr d 128 ≡ d + 128
 marked d h = or-shifted-r 1 7 d h ∙ omega arith
@@ -37,7 +47,7 @@ shr-sign true w = refl
 shr-sign false w = refl
 
 -- f is the group's bits to turn over, as the code has them
-module _ (s neg : Bool) (w : ℕ) {f : ℕ} (is : f ≡ flipOf neg) where
+module _ (s neg : Bool) (w : ℕ) {f : ℕ} (is : f ≡ onesOf neg 7) where
   pub leb-end : w < limit s → leb s (bySign neg w) ≡ bitXor (bitAnd w 127) f ∷ []
   leb-end h = leb-last s (bySign neg w) (omega (arith, mag-sign neg w)) ∙ rw (is, group neg w)
 

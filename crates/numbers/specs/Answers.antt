@@ -1,10 +1,13 @@
 -- What the code's values stand for: a number by its sign and its magnitude, and the numbers of document 01 for each answer of a reader.
 use Prim.Native.Nat.{ℕ, _+_, _-_, _*_, _^_}
-use mathlib.Core.Bool.{Bool, true, false}
+use mathlib.Core.Bool.{Bool, true, false, cond}
 use mathlib.Core.List.{List}
+use lib.Dec.{leb as isLe}
 use lib.IntN.{ℤ, pos, negsuc}
+use lib.ListN.{length}
 use Rattle.format.specs.Parsed.{Parsed, fail, got}
 use Rattle.format.specs.Read.{Outcome, found, nothing, placeOf}
+use Rattle.numbers.specs.Leb.{leb}
 use Rattle.numbers.specs.declared.ReadU32.{ReadU32}
 use Rattle.numbers.specs.declared.ReadU32.the-variants as U32
 use Rattle.numbers.specs.declared.ReadU64.{ReadU64}
@@ -39,10 +42,10 @@ abbrev pub bySign : Bool → ℕ → ℤ
 bySign false a = pos a
 bySign true a = negsuc a
 
--- the seven bits that a negative number turns over
-abbrev pub flipOf : Bool → ℕ
-flipOf false = 0
-flipOf true = 127
+-- the k bits that a negative number turns over
+abbrev pub onesOf : Bool → ℕ → ℕ
+onesOf false k = 0
+onesOf true k = 2 ^ k - 1
 
 -- 2^n · z + d, for d below 2^n
 abbrev pub joinBy : ℕ → ℤ → ℕ → ℤ
@@ -56,3 +59,7 @@ partsAt (negsuc a) p = parts.Value true a p
 abbrev pub partsOf : List ℕ → Parsed ℤ → Parts
 partsOf s fail = parts.Nothing
 partsOf s (got z r) = partsAt z (placeOf s r)
+
+-- z, read up to p, unless k / 7 bytes were enough for it: then it is not in its shortest form
+abbrev pub shortAt : Bool → ℕ → ℤ → ℕ → Parts
+shortAt s k z p = cond (isLe (7 * length (leb s z)) k) parts.Nothing (partsAt z p)

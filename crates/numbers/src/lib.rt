@@ -2,18 +2,19 @@
 // its sign and its magnitude, `pos a` or `negsuc a`, and the low seven bits of a negative one are those of its magnitude turned over.
 use format::Written;
 ghost use mathlib.Core.Path.{_≡_};
-ghost use mathlib.Core.Bool.{cond};
-ghost use Prim.Native.Nat.{_+_, _-_, _*_, _≤_, _<_, _^_};
-ghost use lib.Dec.{leb as isLe, ltb};
+ghost use mathlib.Core.Bool.{cond, _&&_};
+ghost use Prim.Native.Nat.{_+_, _-_, _*_, _/_, _%_, _≤_, _<_, _^_};
+ghost use lib.Dec.{leb as isLe};
 ghost use lib.IntN.{pos};
 ghost use lib.ListN.{length, drop};
 ghost use lib.Signed.{ltZ, mag};
 ghost use Rattle.format.specs.Read.{reading};
 ghost use Rattle.format.specs.Write.{Writes};
-ghost use Rattle.numbers.specs.Leb.{limit, within, leb, uleb, sleb, lastOf, wide, short};
+ghost use Rattle.numbers.specs.Leb.{limit, within, leb, uleb, sleb, lastOf, short};
+ghost use Rattle.numbers.specs.LebLaws.{signBits};
 ghost use Rattle.numbers.specs.Formats.{u32, u64, s32, s64, index};
-ghost use Rattle.numbers.specs.Answers.{bySign, flipOf, joinBy, partsAt, partsOf, readU32, readU64, readI32, readI64};
-ghost use Rattle.numbers.specs.declared.Parts.the-variants.{Value, Nothing};
+ghost use Rattle.numbers.specs.Answers.{bySign, onesOf, joinBy, shortAt, partsOf, readU32, readU64, readI32, readI64};
+ghost use Rattle.numbers.specs.declared.Parts.the-variants.{Nothing};
 
 // What a reader finds: a value and where it ended, or nothing.
 pub enum ReadU32 {
@@ -45,9 +46,9 @@ fn last_limit(signed: bool) -> u64
     if signed { 0x40 } else { 0x80 }
 }
 
-// The bits to turn over in each group.
+// The seven bits that a negative number turns over in each group.
 fn flip(neg: bool) -> u8
-    ensures { λ r. ⌜ r ≡ flipOf neg ⌝ }
+    ensures { λ r. ⌜ r ≡ onesOf neg 7 ⌝ }
 {
     if neg { 0x7F } else { 0 }
 }
@@ -76,7 +77,7 @@ fn fits(signed: bool, a: u64, room: usize) -> bool
     size(signed, a) <= room
 }
 
-fn encode(signed: bool, neg: bool, a: u64, out: &mut [u8]) -> Written
+fn encode_long(signed: bool, neg: bool, a: u64, out: &mut [u8]) -> Written
     ensures { λ r. ⌜ Writes (leb signed (bySign neg a)) (now (out .entry)) (now (out .exit)) r ⌝ }
 {
     if !fits(signed, a, out.len()) {
@@ -93,6 +94,20 @@ fn encode(signed: bool, neg: bool, a: u64, out: &mut [u8]) -> Written
     }
     out[i] = (w & 0x7F) as u8 ^ turn;
     Written::Length(i + 1)
+}
+
+// Most numbers take one byte.
+fn encode(signed: bool, neg: bool, a: u64, out: &mut [u8]) -> Written
+    ensures { λ r. ⌜ Writes (leb signed (bySign neg a)) (now (out .entry)) (now (out .exit)) r ⌝ }
+{
+    if last_limit(signed) <= a {
+        return encode_long(signed, neg, a, out);
+    }
+    if out.len() == 0 {
+        return Written::Short;
+    }
+    out[0] = (a & 0x7F) as u8 ^ flip(neg);
+    Written::Length(1)
 }
 
 fn negative(v: i64) -> bool
@@ -152,83 +167,114 @@ enum Parts {
     Nothing,
 }
 
-// The last group in front of those below it, where it has at most so many bits.
-fn whole(neg: bool, room: u32, top: u8, low: u64, shift: u32, end: usize) -> Parts
-    requires { ⌜ (room + shift ≤ 64) × (shift < 64) × (low < 2 ^ shift) × (top < 128) ⌝ }
-    ensures { λ r. ⌜ r ≡ cond (ltb top (2 ^ room)) (Value neg (top * 2 ^ shift + low) end) Nothing ⌝ }
+// Whether a last byte's sign bit is set.
+fn sign(signed: bool, b: u8) -> bool
+    ensures { λ r. ⌜ r ≡ signed && isLe 64 b ⌝ }
 {
-    if room < 7 {
-        if top >> room != 0 {
-            return Parts::Nothing;
-        }
+    if signed {
+        return 0x40 <= b;
     }
-    Parts::Value(neg, (top as u64) << shift | low, end)
+    false
 }
 
-// A last byte, with so many bits left for it, in front of what was read below it.
-fn last(signed: bool, bits: u32, b: u8, low: u64, shift: u32, end: usize) -> Parts
-    requires { ⌜ (1 ≤ bits) × (bits + shift ≤ 64) × (low < 2 ^ shift) × (b < 128) ⌝ }
-    ensures { λ r. ⌜ r ≡ cond (within signed bits (lastOf signed b)) (partsAt (joinBy shift (lastOf signed b) low) end) Nothing ⌝ }
+// The k bits that a negative number turns over.
+fn ones(neg: bool, k: u32) -> u64
+    requires { ⌜ k < 64 ⌝ }
+    ensures { λ r. ⌜ r ≡ onesOf neg k ⌝ }
 {
-    if !signed {
-        return whole(false, bits, b, low, shift, end);
+    if neg {
+        return (1 << k) - 1;
     }
-    if b < 0x40 {
-        return whole(false, bits - 1, b, low, shift, end);
-    }
-    whole(true, bits - 1, 0x7F - b, (1 << shift) - 1 - low, shift, end)
+    0
 }
 
-// The standard's reading, of a number of so many bits.
-fn decode_wide(signed: bool, bits: u32, s: &[u8], at: usize) -> Parts
-    requires { ⌜ (1 ≤ bits) × (bits ≤ 64) ⌝ }
-    ensures { λ r. ⌜ r ≡ partsOf (now (s .entry)) (wide signed bits (drop at (now (s .entry)))) ⌝ }
+// Whether a number of this magnitude takes no more bytes than there are groups of seven bits in `shift`.
+fn shorter(signed: bool, a: u64, shift: u32) -> bool
+    requires { ⌜ (shift < 64) × (shift % 7 ≡ 0) ⌝ }
+    ensures { λ r. ⌜ r ≡ isLe (7 * length (leb signed (pos a))) shift ⌝ }
 {
-    let mut low: u64 = 0;
-    let mut shift: u32 = 0;
-    let mut i = at;
-    while i < s.len() {
-        let b = s[i];
-        if b < 0x80 {
-            return last(signed, bits - shift, b, low, shift, i + 1);
-        }
-        if bits <= shift + 7 {
-            return Parts::Nothing;
-        }
-        low = low | ((b & 0x7F) as u64) << shift;
-        shift += 7;
-        i += 1;
-    }
-    Parts::Nothing
-}
-
-// Whether a number of this magnitude takes fewer than n bytes.
-fn shorter(signed: bool, a: u64, n: usize) -> bool
-    requires { ⌜ (1 ≤ n) × (n ≤ 10) ⌝ }
-    ensures { λ r. ⌜ r ≡ ltb (length (leb signed (pos a))) n ⌝ }
-{
-    if n == 1 {
+    if shift == 0 {
         return false;
     }
-    let bits = 7 * (n as u32 - 1);
     if signed {
-        return a >> (bits - 1) == 0;
+        return a >> (shift - 1) == 0;
     }
-    a >> bits == 0
+    a >> shift == 0
 }
 
-// The shortest form only.
-fn decode(signed: bool, bits: u32, s: &[u8], at: usize) -> Parts
-    requires { ⌜ (1 ≤ bits) × (bits ≤ 64) ⌝ }
-    ensures { λ r. ⌜ r ≡ partsOf (now (s .entry)) (short signed bits (drop at (now (s .entry)))) ⌝ }
+// The shortest form only: with anything in its last group, `top`, a number needs it.
+fn shortest(signed: bool, neg: bool, top: u8, a: u64, shift: u32, end: usize) -> Parts
+    requires { ⌜ (shift < 64) × (shift % 7 ≡ 0) × (a / 2 ^ shift ≡ top) ⌝ }
+    ensures { λ r. ⌜ r ≡ shortAt signed shift (bySign neg a) end ⌝ }
 {
-    let Parts::Value(neg, a, end) = decode_wide(signed, bits, s, at) else {
-        return Parts::Nothing;
-    };
-    if shorter(signed, a, end - at) {
-        return Parts::Nothing;
+    if top == 0 {
+        if shorter(signed, a, shift) {
+            return Parts::Nothing;
+        }
     }
     Parts::Value(neg, a, end)
+}
+
+// A last byte whose seven bits are all within the width: v is all that was read.
+fn whole(signed: bool, b: u8, v: u64, shift: u32, end: usize) -> Parts
+    requires { ⌜ (shift + 7 < 64) × (shift % 7 ≡ 0) × (b < 128) × (v / 2 ^ shift ≡ b) ⌝ }
+    ensures { λ r. ⌜ r ≡ shortAt signed shift (joinBy shift (lastOf signed b) (v % 2 ^ shift)) end ⌝ }
+{
+    let neg = sign(signed, b);
+    let top = b ^ flip(neg);
+    shortest(signed, neg, top, v ^ ones(neg, shift + 7), shift, end)
+}
+
+// The bits of a number without its sign.
+fn value_bits(signed: bool, bits: u32) -> u32
+    requires { ⌜ 1 ≤ bits ⌝ }
+    ensures { λ r. ⌜ r ≡ bits - signBits signed ⌝ }
+{
+    if signed { bits - 1 } else { bits }
+}
+
+// The last byte that the width allows, with so many bits left for it.
+fn last(signed: bool, bits: u32, b: u8, low: u64, shift: u32, end: usize) -> Parts
+    requires { ⌜ (1 ≤ bits) × (bits < 7) × (bits + shift ≤ 64) × (shift % 7 ≡ 0) × (low < 2 ^ shift) × (b < 128) ⌝ }
+    ensures { λ r. ⌜ r ≡ cond (within signed bits (lastOf signed b)) (shortAt signed shift (joinBy shift (lastOf signed b) low) end) Nothing ⌝ }
+{
+    let neg = sign(signed, b);
+    let top = b ^ flip(neg);
+    if top >> value_bits(signed, bits) != 0 {
+        return Parts::Nothing;
+    }
+    let a = (top as u64) << shift | (low ^ ones(neg, shift));
+    shortest(signed, neg, top, a, shift, end)
+}
+
+// A number of so many bits at a place, in its shortest form.
+fn decode(signed: bool, bits: u32, s: &[u8], at: usize) -> Parts
+    requires { ⌜ (1 ≤ bits % 7) × (bits ≤ 64) ⌝ }
+    ensures { λ r. ⌜ r ≡ partsOf (now (s .entry)) (short signed bits (drop at (now (s .entry)))) ⌝ }
+{
+    let mut v: u64 = 0;
+    let mut shift: u32 = 0;
+    let mut i = at;
+    while shift + 7 <= bits {
+        if s.len() <= i {
+            return Parts::Nothing;
+        }
+        let b = s[i];
+        v = v | ((b & 0x7F) as u64) << shift;
+        i += 1;
+        if b < 0x80 {
+            return whole(signed, b, v, shift, i);
+        }
+        shift += 7;
+    }
+    if s.len() <= i {
+        return Parts::Nothing;
+    }
+    let b = s[i];
+    if 0x80 <= b {
+        return Parts::Nothing;
+    }
+    last(signed, bits - shift, b, v, shift, i + 1)
 }
 
 // A number again, of its sign and its magnitude.

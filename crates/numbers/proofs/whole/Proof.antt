@@ -1,32 +1,39 @@
-use mathlib.Core.Logic.{⊎-elim}
-use Prim.Native.Nat.{_<_, _^_}
+use mathlib.Core.Path.{ap, _∙_}
 use native.Mathlib.Omega.{arith}
-use borrow.Author.Tests.{lt-ltb, le-ltb}
-use lib.Pow.{pow-mono}
-use Rattle.numbers.proofs.Reading.{none-above, some-above, in-front}
+use lib.IntN.{ℤ}
+use Rattle.numbers.specs.Answers.{shortAt}
+use Rattle.numbers.proofs.Reading.{whole-top, whole-value}
 use borrow.Author.Needs.{needs}
 use Rattle.numbers.proofs.whole.Statement.{statement}
 use Rattle.numbers.proofs.whole.Tie as tie
 
-cast-if2 : tie.Need-cast-if2
-cast-if2 c = search needs
+sign-requires : tie.Need-sign-requires
+sign-requires c κs = search needs
 
-shr-if2 : tie.Need-shr-if2
-shr-if2 c = search needs
+flip-requires : tie.Need-flip-requires
+flip-requires c κs = search needs
+
+add-ones : tie.Need-add-ones
+add-ones c = search needs
+
+ones-requires : tie.Need-ones-requires
+ones-requires c κs = search needs
+
+shortest-requires : tie.Need-shortest-requires
+shortest-requires c κs =
+    let a = c .before .before .before .args in
+    let p = c .before .before .before .pre in
+    (omega arith, p .1, whole-top (a .signed) (a .shift) (a .b) (p .2) (c .before .before .sign .ensures) (c .before .flip .ensures) (a .v) (p .3) (c .ones .ensures))
 
 returns : tie.Need-returns
 returns c =
-    let a = c .before .before .args in
-    rw (le-ltb (a .top) (2 ^ a .room) (some-above (a .top) (a .room) (c .if2 .taken)))
-
-shl-t13 : tie.Need-shl-t13
-shl-t13 c = search needs
-
-returns-2 : tie.Need-returns-2
-returns-2 c =
-    let a = c .before .args in
-    let h : a .top < 2 ^ a .room = ⊎-elim (λ w. none-above (a .top) (a .room) (w .1 .left)) (λ w. omega (arith, pow-mono (w .left))) (c .if1 .came) in
-    rw (lt-ltb (a .top) (2 ^ a .room) h, in-front (a .room) (a .shift) (a .top) (a .low) h (c .before .pre .0) (c .before .pre .2))
+    let a = c .before .before .before .before .args in
+    let p = c .before .before .before .before .pre in
+    c .shortest .ensures
+    ∙ ap (λ (z : ℤ). shortAt (a .signed) (a .shift) z (a .end))
+    (whole-value (a .signed) (a .shift) (a .b) (p .2) (c .before .before .before .sign .ensures) (c .before .before .flip .ensures) (a .v) (p .3) (c .before .ones .ensures))
 
 pub whole-spec : {M : Type 1} → statement M
-whole-spec = tie.close (tie.spec cast-if2 shr-if2 returns shl-t13 returns-2)
+whole-spec =
+    tie.close
+    (tie.spec sign-requires flip-requires add-ones ones-requires shortest-requires returns)

@@ -1,0 +1,191 @@
+// Times the proved number functions against the obvious Rust loop and, with `--cfg leb128fmt`, against the crate that wasm-encoder writes numbers with.
+// Same numbers, same buffer, one run; every written byte and every read value is compared first. Prints ratios: below 1 the proved function is faster.
+use std::hint::black_box;
+use std::time::Instant;
+
+#[cfg(leb128fmt)]
+extern crate leb128fmt;
+
+// One module for each type: the proved functions, the plain loops, and leb128fmt's, all behind one calling convention.
+macro_rules! number {
+    ($name:ident, $t:ty, $bits:expr, $signed:expr, $enc:ident, $dec:ident, $fmt_enc:ident, $fmt_dec:ident) => {
+        mod $name {
+            use super::*;
+            pub type Write = unsafe extern "C" fn($t, *mut u8, usize) -> usize;
+            pub type Read = unsafe extern "C" fn(*const u8, usize, usize, *mut $t) -> usize;
+            extern "C" {
+                fn $enc(v: $t, out: *mut u8, len: usize) -> usize;
+                fn $dec(s: *const u8, len: usize, at: usize, value: *mut $t) -> usize;
+            }
+            // Refuses where there is no room; unlike the proved one it has then written some of its bytes.
+            unsafe extern "C" fn plain_encode(mut v: $t, out: *mut u8, len: usize) -> usize {
+                let out = std::slice::from_raw_parts_mut(out, len);
+                let mut i = 0;
+                loop {
+                    let byte = (v & 0x7F) as u8;
+                    v >>= 7;
+                    let last = if $signed {
+                        (v == 0 && byte & 0x40 == 0) || (v == !0 && byte & 0x40 != 0)
+                    } else {
+                        v == 0
+                    };
+                    if i >= out.len() {
+                        return 0;
+                    }
+                    if last {
+                        out[i] = byte;
+                        return i + 1;
+                    }
+                    out[i] = byte | 0x80;
+                    i += 1;
+                }
+            }
+            // The shortest form only, within the width.
+            unsafe extern "C" fn plain_decode(s: *const u8, len: usize, at: usize, value: *mut $t) -> usize {
+                let s = std::slice::from_raw_parts(s, len);
+                let (mut v, mut shift, mut i, mut before): ($t, u32, usize, u8) = (0, 0, at, 0);
+                loop {
+                    let Some(&byte) = s.get(i) else { return 0 };
+                    i += 1;
+                    v |= ((byte & 0x7F) as $t) << shift;
+                    shift += 7;
+                    if byte < 0x80 {
+                        if shift > $bits {
+                            let used = $bits + 7 - shift;
+                            let spare = if $signed { ((byte as i8) << 1 >> 1) >> (used - 1) } else { (byte >> used) as i8 };
+                            if spare != 0 && !($signed && spare == -1) {
+                                return 0;
+                            }
+                        } else if $signed && byte & 0x40 != 0 && shift < $bits {
+                            v |= (!0 as $t) << shift;
+                        }
+                        let padded = byte == 0 && !($signed && before & 0x40 != 0) || $signed && byte == 0x7F && before & 0x40 != 0;
+                        if shift > 7 && padded {
+                            return 0;
+                        }
+                        *value = v;
+                        return i;
+                    }
+                    if shift >= $bits {
+                        return 0;
+                    }
+                    before = byte;
+                }
+            }
+            #[cfg(leb128fmt)]
+            unsafe extern "C" fn fmt_encode(v: $t, out: *mut u8, len: usize) -> usize {
+                let out = std::slice::from_raw_parts_mut(out, len);
+                let (bytes, n) = leb128fmt::$fmt_enc(v).unwrap();
+                out[..n].copy_from_slice(&bytes[..n]);
+                n
+            }
+            #[cfg(leb128fmt)]
+            unsafe extern "C" fn fmt_decode(s: *const u8, len: usize, at: usize, value: *mut $t) -> usize {
+                let s = std::slice::from_raw_parts(s, len);
+                let mut p = at;
+                match leb128fmt::$fmt_dec::<$t, $bits>(s, &mut p) {
+                    Ok(v) => {
+                        *value = v;
+                        p
+                    }
+                    Err(_) => 0,
+                }
+            }
+
+            fn write(f: Write, v: $t, out: &mut [u8]) -> usize {
+                unsafe { f(v, out.as_mut_ptr(), out.len()) }
+            }
+            fn read(f: Read, s: &[u8], at: usize, value: &mut $t) -> usize {
+                unsafe { f(s.as_ptr(), s.len(), at, value) }
+            }
+            // neither the length nor the function is known where these are compiled
+            fn write_all(f: Write, vs: &[$t]) {
+                let mut room = [0u8; 16];
+                let (out, f): (&mut [u8], Write) = black_box((&mut room, f));
+                for &v in vs {
+                    black_box(write(f, v, out));
+                }
+            }
+            fn read_all(f: Read, bytes: &[u8]) {
+                let (mut at, mut v, f) = (0, 0, black_box(f));
+                while at < bytes.len() {
+                    at = read(f, bytes, at, &mut v);
+                    black_box(v);
+                }
+            }
+            // every byte and value is what the others make of it, and one byte of room or of input less is refused with nothing changed
+            fn compare(v: $t) -> Vec<u8> {
+                let (mut a, mut b, mut got) = ([0u8; 16], [0u8; 16], 0);
+                let n = write($enc, v, &mut a);
+                assert_eq!((n, a), (write(plain_encode, v, &mut b), b), "{v}");
+                #[cfg(leb128fmt)]
+                {
+                    let mut c = [0u8; 16];
+                    assert_eq!((n, a), (write(fmt_encode, v, &mut c), c), "{v}");
+                }
+                assert_eq!((read($dec, &a, 0, &mut got), got), (n, v));
+                for len in 0..n {
+                    let mut short = [0xAAu8; 16];
+                    assert_eq!(write($enc, v, &mut short[..len]), 0);
+                    assert_eq!(short, [0xAAu8; 16]);
+                    assert_eq!(read($dec, &a[..len], 0, &mut got), 0);
+                }
+                a[..n].to_vec()
+            }
+            pub fn run(width: u32, vs: &[$t]) {
+                let bytes: Vec<u8> = vs.iter().flat_map(|&v| compare(v)).collect();
+                let w = times(&[&|| write_all($enc, vs), &|| write_all(plain_encode, vs)]);
+                let r = times(&[&|| read_all($dec, &bytes), &|| read_all(plain_decode, &bytes)]);
+                print!("{:>4} {:>3} bits  write {:5.2}  read {:5.2}  of the plain loop", stringify!($t), width, w[0] / w[1], r[0] / r[1]);
+                #[cfg(leb128fmt)]
+                {
+                    let w = times(&[&|| write_all($enc, vs), &|| write_all(fmt_encode, vs)]);
+                    let r = times(&[&|| read_all($dec, &bytes), &|| read_all(fmt_decode, &bytes)]);
+                    print!("   write {:5.2}  read {:5.2}  of leb128fmt", w[0] / w[1], r[0] / r[1]);
+                }
+                println!();
+            }
+        }
+    };
+}
+
+number!(u32s, u32, 32, false, thriftbell_encode_u32, thriftbell_decode_u32, encode_u32, decode_uint_slice);
+number!(u64s, u64, 64, false, thriftbell_encode_u64, thriftbell_decode_u64, encode_u64, decode_uint_slice);
+number!(i32s, i32, 32, true, thriftbell_encode_i32, thriftbell_decode_i32, encode_s32, decode_sint_slice);
+number!(i64s, i64, 64, true, thriftbell_encode_i64, thriftbell_decode_i64, encode_s64, decode_sint_slice);
+
+// The least of 30 rounds each, the two taking turns.
+fn times(runs: &[&dyn Fn()]) -> Vec<f64> {
+    let mut least = vec![f64::MAX; runs.len()];
+    for _ in 0..30 {
+        for (i, run) in runs.iter().enumerate() {
+            let start = Instant::now();
+            for _ in 0..10 {
+                run();
+            }
+            least[i] = least[i].min(start.elapsed().as_secs_f64());
+        }
+    }
+    least
+}
+
+fn main() {
+    let mut x = 88172645463325252u64;
+    let mut random = || {
+        x ^= x << 13;
+        x ^= x >> 7;
+        x ^= x << 17;
+        x
+    };
+    for width in [7, 14, 32, 64] {
+        // numbers of exactly so many bits, signed ones of both signs
+        let vs: Vec<u64> = (0..50_000).map(|_| random() >> (64 - width) | 1 << (width - 1)).collect();
+        let is: Vec<i64> = vs.iter().map(|&v| if random() & 1 == 0 { (v >> 1) as i64 } else { !((v >> 1) as i64) }).collect();
+        if width <= 32 {
+            u32s::run(width, &vs.iter().map(|&v| v as u32).collect::<Vec<_>>());
+            i32s::run(width, &is.iter().map(|&v| v as i32).collect::<Vec<_>>());
+        }
+        u64s::run(width, &vs);
+        i64s::run(width, &is);
+    }
+}
