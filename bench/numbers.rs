@@ -1,10 +1,22 @@
 // Times the proved number functions against the obvious Rust loop and, with `--cfg leb128fmt`, against the crate that wasm-encoder writes numbers with.
 // Same numbers, same buffer, one run; every written byte and every read value is compared first. Prints ratios: below 1 the proved function is faster.
+// PAD moves the proved functions on by so many bytes: a function of some ten instructions costs more or less by where it lies in a cache line.
 use std::hint::black_box;
 use std::time::Instant;
 
 #[cfg(leb128fmt)]
 extern crate leb128fmt;
+
+const fn pad() -> usize {
+    match option_env!("PAD") {
+        Some(text) => 16 * (text.as_bytes()[0] - b'0') as usize,
+        None => 0,
+    }
+}
+std::arch::global_asm!(".section .text.pad,\"ax\"", ".globl pad_of_text", "pad_of_text:", ".skip {}", const pad());
+extern "C" {
+    fn pad_of_text();
+}
 
 // One module for each type: the proved functions, the plain loops, and leb128fmt's, all behind one calling convention.
 macro_rules! number {
@@ -136,12 +148,12 @@ macro_rules! number {
                 let bytes: Vec<u8> = vs.iter().flat_map(|&v| compare(v)).collect();
                 let w = times(&[&|| write_all($enc, vs), &|| write_all(plain_encode, vs)]);
                 let r = times(&[&|| read_all($dec, &bytes), &|| read_all(plain_decode, &bytes)]);
-                print!("{:>4} {:>3} bits  write {:5.2}  read {:5.2}  of the plain loop", stringify!($t), width, w[0] / w[1], r[0] / r[1]);
+                print!("{} {} {:.3} {:.3}", stringify!($t), width, w[0] / w[1], r[0] / r[1]);
                 #[cfg(leb128fmt)]
                 {
                     let w = times(&[&|| write_all($enc, vs), &|| write_all(fmt_encode, vs)]);
                     let r = times(&[&|| read_all($dec, &bytes), &|| read_all(fmt_decode, &bytes)]);
-                    print!("   write {:5.2}  read {:5.2}  of leb128fmt", w[0] / w[1], r[0] / r[1]);
+                    print!(" {:.3} {:.3}", w[0] / w[1], r[0] / r[1]);
                 }
                 println!();
             }
@@ -170,6 +182,7 @@ fn times(runs: &[&dyn Fn()]) -> Vec<f64> {
 }
 
 fn main() {
+    black_box(pad_of_text as unsafe extern "C" fn());
     let mut x = 88172645463325252u64;
     let mut random = || {
         x ^= x << 13;

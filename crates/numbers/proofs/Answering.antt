@@ -1,17 +1,20 @@
 -- From a number by its sign and its magnitude to the answer of each reader. Assumes nothing.
 use mathlib.Core.Path.{_≡_, refl, sym, ap, _∙_}
 use mathlib.Core.Bool.{Bool, true, false}
-use mathlib.Core.List.{List}
-use Prim.Native.Nat.{ℕ, _-_, _≤_, _<_, _^_}
+use mathlib.Core.List.{List, _∷_, _++_}
+use Prim.Native.Nat.{ℕ, _+_, _-_, _≤_, _<_, _^_}
 use native.Mathlib.Omega.{arith}
 use borrow.Author.Tests.{ltb-true, lt-ltb, le-ltb}
 use lib.IntN.{ℤ, pos, negsuc}
-use lib.ListN.{drop}
+use lib.ListN.{length, drop, getD}
+use lib.Pow.{pow-mono}
 use lib.Signed.{mag}
 use Rattle.format.specs.Parsed.{Parsed, fail, got}
-use Rattle.format.specs.Read.{found, nothing, reading, placeOf}
-use Rattle.numbers.specs.Leb.{unsigned, signed, within, short}
-use Rattle.numbers.specs.Formats.{integer, natural, short-only}
+use Rattle.format.specs.Read.{found, nothing, reading, placeOf, drop-more, drop-end, reads, reads-not}
+use Rattle.numbers.specs.LebLaws.{leb-last}
+use Rattle.numbers.proofs.Loop.{wide-none}
+use Rattle.numbers.specs.Leb.{uleb, unsigned, signed, within, short}
+use Rattle.numbers.specs.Formats.{integer, natural, uN, short-only}
 use Rattle.numbers.specs.Answers.{bySign, partsOf}
 use Rattle.numbers.specs.declared.Parts.{Parts}
 use Rattle.numbers.specs.declared.Parts.the-variants.{Value, Nothing}
@@ -93,3 +96,14 @@ unsigned-fits N xs at said {neg} {a} e = unsigned-range N neg a (value-fits unsi
 
 pub signed-fits : (N : ℕ) (xs : List ℕ) (at : ℕ) {r : Parts} → r ≡ partsOf xs (short signed N (drop at xs)) → {neg : Bool} {a p : ℕ} → r ≡ Value neg a p → a < 2 ^ (N - 1)
 signed-fits N xs at said {neg} {a} e = let h : mag (bySign neg a) < 2 ^ (N - 1) = ltb-true (mag (bySign neg a)) (2 ^ (N - 1)) (value-fits signed N xs at said e) in omega (arith, mag-sign neg a)
+
+-- ---- numbers without a sign: none at all, and those of one byte
+
+pub unsigned-none : (N : ℕ) (xs : List ℕ) (at : ℕ) → length xs ≤ at → nothing 0 ≡ reading 0 xs (uN N .parse (drop at xs))
+unsigned-none N xs at h = reads-not 0 xs {m = uN N .parse (drop at xs)} (rw (drop-end xs at h, wide-none unsigned N))
+
+pub unsigned-one : (N : ℕ) (xs : List ℕ) (at : ℕ) → 7 ≤ N → at < length xs → getD xs at 0 < 128 → found (getD xs at 0) (at + 1) ≡ reading 0 xs (uN N .parse (drop at xs))
+unsigned-one N xs at w l h =
+    let b = getD xs at 0 in
+    let e : drop at xs ≡ uleb b ++ drop (at + 1) xs = drop-more xs at l ∙ sym (rw (leb-last unsigned (pos b) h) (ap (λ (x : ℕ). x ∷ drop (at + 1) xs) (omega arith))) in
+    reads 0 xs (ap (uN N .parse) e ∙ uN N .back b (drop (at + 1) xs) (omega (arith, pow-mono w))) (omega arith)

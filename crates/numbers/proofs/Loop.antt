@@ -34,7 +34,7 @@ map-same : (f g : ℤ → ℤ) → ((z : ℤ) → f z ≡ g z) → (m : Parsed �
 map-same f g e fail = refl
 map-same f g e (got z r) = ap (λ (y : ℤ). got y r) (e z)
 
-wide-none : (s : Bool) (N : ℕ) → wide s N [] ≡ fail
+pub wide-none : (s : Bool) (N : ℕ) → wide s N [] ≡ fail
 unfolding wide
 wide-none s N = refl
 

@@ -41,11 +41,14 @@ short-only s N b z r e =
 abbrev pub integer : Bool → ℕ → Format ℤ
 integer s N = record { Ok = λ z. within s N z ≡ true; print = leb s; parse = short s N; back = short-back s N; only = short-only s N }
 
+abbrev pub sN : ℕ → Format ℤ
+sN N = integer signed N
+
 abbrev pub s32 : Format ℤ
-s32 = integer signed 32
+s32 = sN 32
 
 abbrev pub s64 : Format ℤ
-s64 = integer signed 64
+s64 = sN 64
 
 -- ---- the natural numbers below M among those of N bits
 
@@ -79,11 +82,14 @@ module _ (s : Bool) (N M : ℕ) (fits : (n : ℕ) → n < M → within s N (pos 
 pub below : (N n : ℕ) → n < 2 ^ N → within unsigned N (pos n) ≡ true
 below N n h = lt-ltb n (2 ^ N) h
 
+abbrev pub uN : ℕ → Format ℕ
+uN N = natural unsigned N (2 ^ N) (below N)
+
 abbrev pub u32 : Format ℕ
-u32 = natural unsigned 32 (2 ^ 32) (below 32)
+u32 = uN 32
 
 abbrev pub u64 : Format ℕ
-u64 = natural unsigned 64 (2 ^ 64) (below 64)
+u64 = uN 64
 
 pub index-fits : (n : ℕ) → n < 2 ^ 32 → within signed 64 (pos n) ≡ true
 index-fits n h = lt-ltb n (2 ^ 63) (omega arith)

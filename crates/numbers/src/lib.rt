@@ -12,7 +12,7 @@ ghost use Rattle.format.specs.Read.{reading};
 ghost use Rattle.format.specs.Write.{Writes};
 ghost use Rattle.numbers.specs.Leb.{limit, within, leb, uleb, sleb, lastOf, short};
 ghost use Rattle.numbers.specs.LebLaws.{signBits};
-ghost use Rattle.numbers.specs.Formats.{u32, u64, s32, s64, index};
+ghost use Rattle.numbers.specs.Formats.{uN, u32, u64, s32, s64, index};
 ghost use Rattle.numbers.specs.Answers.{bySign, onesOf, joinBy, shortAt, partsOf, readU32, readU64, readI32, readI64};
 ghost use Rattle.numbers.specs.declared.Parts.the-variants.{Nothing};
 
@@ -285,22 +285,37 @@ fn number(neg: bool, a: u64) -> i64
     if neg { !(a as i64) } else { a as i64 }
 }
 
+// Most numbers without a sign take one byte.
+fn decode_unsigned(bits: u32, s: &[u8], at: usize) -> ReadU64
+    requires { ⌜ (7 ≤ bits) × (1 ≤ bits % 7) × (bits ≤ 64) ⌝ }
+    ensures { λ r. ⌜ readU64 r ≡ reading 0 (now (s .entry)) (uN bits .parse (drop at (now (s .entry)))) ⌝ }
+{
+    if s.len() <= at {
+        return ReadU64::Nothing;
+    }
+    let b = s[at];
+    if b < 0x80 {
+        return ReadU64::Value(b as u64, at + 1);
+    }
+    let Parts::Value(_, a, end) = decode(false, bits, s, at) else {
+        return ReadU64::Nothing;
+    };
+    ReadU64::Value(a, end)
+}
+
 pub fn decode_u32(s: &[u8], at: usize) -> ReadU32
     ensures { λ r. ⌜ readU32 r ≡ reading 0 (now (s .entry)) (u32 .parse (drop at (now (s .entry)))) ⌝ }
 {
-    let Parts::Value(_, a, end) = decode(false, 32, s, at) else {
+    let ReadU64::Value(v, end) = decode_unsigned(32, s, at) else {
         return ReadU32::Nothing;
     };
-    ReadU32::Value(a as u32, end)
+    ReadU32::Value(v as u32, end)
 }
 
 pub fn decode_u64(s: &[u8], at: usize) -> ReadU64
     ensures { λ r. ⌜ readU64 r ≡ reading 0 (now (s .entry)) (u64 .parse (drop at (now (s .entry)))) ⌝ }
 {
-    let Parts::Value(_, a, end) = decode(false, 64, s, at) else {
-        return ReadU64::Nothing;
-    };
-    ReadU64::Value(a, end)
+    decode_unsigned(64, s, at)
 }
 
 pub fn decode_i32(s: &[u8], at: usize) -> ReadI32
