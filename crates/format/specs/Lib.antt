@@ -10,3 +10,4 @@ pub mod Read
 pub mod Count
 pub mod Walk
 pub mod Loop
+pub mod RoundTrip

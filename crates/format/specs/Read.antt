@@ -4,6 +4,8 @@ use mathlib.Core.List.{List, [], _∷_, _++_, append-assoc}
 use Prim.Native.Nat.{ℕ, _+_, _-_, _<_, _≤_}
 use native.Mathlib.Numerals.{add-one}
 use native.Mathlib.Omega.{arith}
+use mathlib.Core.Bool.{cond}
+use lib.Dec.{eqb}
 use lib.ListN.{length, getD, take, drop, length-append, length-drop, take-append-drop, drop-of-length-le}
 use lib.Seq.{drop-cons, drop-append-seam}
 use Rattle.format.specs.Parsed.{Parsed, fail, got}
@@ -82,3 +84,12 @@ module _ {A : Type 0} (zero : A) (s : List ℕ) where
       go : (m : Parsed A) → nothing zero ≡ reading zero s m → m ≡ fail
       go fail w = refl
       go (got b t) w = let z : _≡_ {A = ℕ} 11 0 = ap (λ (o : Outcome A). o .number) w in absurd (omega arith)
+
+-- ---- an answer by its outcome: any two that stand for the same outcome are equal
+
+abbrev pub answerOf : {A R : Type 0} → (A → ℕ → R) → R → Outcome A → R
+answerOf value none o = cond (eqb (o .number) 0) (value (o .value) (o .place)) none
+
+pub one-answer : {A R : Type 0} (stands : R → Outcome A) (value : A → ℕ → R) (none : R) → ((r : R) → answerOf value none (stands r) ≡ r)
+    → {w : Outcome A} {r s : R} → stands r ≡ w → stands s ≡ w → r ≡ s
+one-answer stands value none back {w} {r} {s} p q = sym (back r) ∙ ap (answerOf value none) (p ∙ sym q) ∙ back s

@@ -16,8 +16,8 @@ use Rattle.numbers.proofs.Loop.{wide-none}
 use Rattle.numbers.specs.Leb.{uleb, unsigned, signed, within, short}
 use Rattle.numbers.specs.Formats.{integer, natural, uN, short-only}
 use Rattle.numbers.specs.Answers.{bySign, partsOf}
-use Rattle.numbers.specs.declared.Parts.{Parts}
-use Rattle.numbers.specs.declared.Parts.the-variants.{Value, Nothing}
+use Rattle.numbers.specs.declared.reader.Parts.{Parts}
+use Rattle.numbers.specs.declared.reader.Parts.the-variants.{Value, Nothing}
 use Rattle.numbers.proofs.Signs.{mag-sign}
 
 -- ---- an answer, turned back into what was read

@@ -15,7 +15,7 @@ use Rattle.format.specs.Write.{fits-or}
 use Rattle.numbers.specs.Leb.{within, leb, lastOf, join, wide, short, taken}
 use Rattle.numbers.specs.LebLaws.{wide-last, wide-over, wide-more, wide-long, wide-form}
 use Rattle.numbers.specs.Answers.{joinBy, partsOf, shortAt}
-use Rattle.numbers.specs.declared.Parts.the-variants.{Nothing}
+use Rattle.numbers.specs.declared.reader.Parts.the-variants.{Nothing}
 use Rattle.numbers.proofs.Reading.{join-start, join-more, below}
 
 -- of a number that begins at `at`, k bits are read, v, and the rest stands from i on

@@ -17,7 +17,7 @@ use Rattle.format.specs.Write.{fits-or}
 use Rattle.numbers.specs.Leb.{within, leb, lastOf, join}
 use Rattle.numbers.specs.LebLaws.{leb-some, limitOf, limit-is, signBits, bytes-at-most, bytes-above}
 use Rattle.numbers.specs.Answers.{bySign, onesOf, joinBy, partsAt, shortAt}
-use Rattle.numbers.specs.declared.Parts.the-variants.{Value, Nothing}
+use Rattle.numbers.specs.declared.reader.Parts.the-variants.{Value, Nothing}
 use Rattle.numbers.proofs.Writing.{turnOf, turned, length-sign}
 
 -- ---- bits above a place

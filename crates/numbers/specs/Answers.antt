@@ -16,8 +16,8 @@ use Rattle.numbers.specs.declared.ReadI32.{ReadI32}
 use Rattle.numbers.specs.declared.ReadI32.the-variants as I32
 use Rattle.numbers.specs.declared.ReadI64.{ReadI64}
 use Rattle.numbers.specs.declared.ReadI64.the-variants as I64
-use Rattle.numbers.specs.declared.Parts.{Parts}
-use Rattle.numbers.specs.declared.Parts.the-variants as parts
+use Rattle.numbers.specs.declared.reader.Parts.{Parts}
+use Rattle.numbers.specs.declared.reader.Parts.the-variants as parts
 
 -- document 01, Answers by number: 0, the value and where it ended; or 11
 abbrev pub readU32 : ReadU32 → Outcome ℕ

@@ -4,3 +4,4 @@ pub mod LebLaws
 pub mod Standard
 pub mod Formats
 pub mod Answers
+pub mod Outcomes
