@@ -38,7 +38,7 @@ low (negsuc a) = 127 - a % 128
 -- the shortest form of z, in at most k + 1 bytes
 unfoldable pub lebBy : ℕ → Bool → ℤ → List ℕ
 lebBy zero s z = low z ∷ []
-lebBy (suc k) s z = cond (ltb (mag z) (limit s)) (low z ∷ []) ((low z + 128) ∷ lebBy k s (shrZ z 128))
+lebBy (suc k) s z = elim (ltb (mag z) (limit s)) [ true ↦ low z ∷ [] | false ↦ (low z + 128) ∷ lebBy k s (shrZ z 128) ]
 
 -- z that a last byte holds: its low seven bits; else those with the high bit set, and then the rest. mag z bounds the number of bytes
 unfoldable pub leb : Bool → ℤ → List ℕ
