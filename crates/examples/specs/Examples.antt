@@ -2,7 +2,7 @@
 use mathlib.Core.Path.{_≡_, refl}
 use mathlib.Core.List.{[], _∷_}
 use lib.IntN.{pos, negsuc}
-use Rattle.numbers.specs.Leb.{leb, lebBy, uleb, sleb}
+use Rattle.leb128.specs.Leb.{leb, lebBy, uleb, sleb}
 
 pub record Numbers : Type 0 where
   -- unsigned 127 is 7F; 128 is 80 01; 624485 is E5 8E 26; 4294967295 is FF FF FF FF 0F

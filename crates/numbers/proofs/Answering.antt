@@ -11,14 +11,13 @@ use lib.Pow.{pow-mono}
 use lib.Signed.{mag}
 use Rattle.format.specs.Parsed.{Parsed, fail, got}
 use Rattle.format.specs.Read.{found, nothing, reading, placeOf, drop-more, drop-end, reads, reads-not}
-use Rattle.numbers.specs.LebLaws.{leb-last}
-use Rattle.numbers.proofs.Loop.{wide-none}
-use Rattle.numbers.specs.Leb.{uleb, unsigned, signed, within, short}
-use Rattle.numbers.specs.Formats.{integer, natural, uN, short-only}
-use Rattle.numbers.specs.Answers.{bySign, partsOf}
-use Rattle.numbers.specs.declared.reader.Parts.{Parts}
-use Rattle.numbers.specs.declared.reader.Parts.the-variants.{Value, Nothing}
-use Rattle.numbers.proofs.Signs.{mag-sign}
+use Rattle.leb128.specs.LebLaws.{leb-last}
+use Rattle.leb128.proofs.Loop.{wide-none}
+use Rattle.leb128.specs.Leb.{uleb, unsigned, signed, within, short}
+use Rattle.leb128.specs.Formats.{integer, natural, uN, short-only}
+use Rattle.leb128.specs.Parts.{bySign, partsOf, mag-sign}
+use Rattle.leb128.specs.declared.Parts.{Parts}
+use Rattle.leb128.specs.declared.Parts.the-variants.{Value, Nothing}
 
 -- ---- an answer, turned back into what was read
 

@@ -1,5 +1,2 @@
 pub mod Signs
-pub mod Writing
-pub mod Reading
-pub mod Loop
 pub mod Answering

@@ -10,11 +10,7 @@ use borrow.Author.Tests.{ltb-true, le-ltb}
 use mir.Syntax.{Width, w32, w64}
 use mir.Val.{Fits, SFits, hbits, toZ, ofZ}
 use mir.Facts.{toZ-pos, toZ-neg, toZ-ofZ, sfits-widen}
-use Rattle.numbers.specs.Answers.{bySign}
-
-pub mag-sign : (neg : Bool) (a : ℕ) → mag (bySign neg a) ≡ a
-mag-sign true a = refl
-mag-sign false a = refl
+use Rattle.leb128.specs.Parts.{bySign, mag-sign}
 
 -- a number is its sign and its magnitude
 pub sign-mag : (v : ℤ) → bySign (ltZ v (pos 0)) (mag v) ≡ v

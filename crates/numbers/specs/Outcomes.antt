@@ -10,8 +10,8 @@ use Rattle.format.specs.Write.{Writes, one-outcome}
 use Rattle.format.specs.RoundTrip.{written-read}
 use Rattle.format.specs.declared.Written.{Written}
 use Rattle.format.specs.declared.Written.the-variants.{Length}
-use Rattle.numbers.specs.Leb.{unsigned, signed, within, uleb, sleb}
-use Rattle.numbers.specs.Formats.{uN, sN, index}
+use Rattle.leb128.specs.Leb.{signed, within, uleb, sleb}
+use Rattle.leb128.specs.Formats.{uN, sN, index}
 use Rattle.numbers.specs.Answers.{readU32, readU64, readI32, readI64}
 use Rattle.numbers.specs.declared.ReadU32.{ReadU32}
 use Rattle.numbers.specs.declared.ReadU32.the-variants as U32

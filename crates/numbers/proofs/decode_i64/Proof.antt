@@ -1,6 +1,6 @@
 use native.Mathlib.Omega.{arith}
 use denote.Ref.{now}
-use Rattle.numbers.specs.Leb.{signed}
+use Rattle.leb128.specs.Leb.{signed}
 use Rattle.numbers.proofs.Answering.{integer-none, integer-found, signed-fits}
 use Rattle.numbers.proofs.Signs.{back64}
 use borrow.Author.Needs.{needs}

@@ -1,8 +1,8 @@
 use Prim.Native.Nat.{_^_}
 use native.Mathlib.Omega.{arith}
 use denote.Ref.{now}
-use Rattle.numbers.specs.Leb.{signed}
-use Rattle.numbers.specs.Formats.{index-fits}
+use Rattle.leb128.specs.Leb.{signed}
+use Rattle.leb128.specs.Formats.{index-fits}
 use Rattle.numbers.proofs.Answering.{natural-none, natural-found, natural-negative, natural-over}
 use borrow.Author.Needs.{needs}
 use Rattle.numbers.proofs.decode_index.Statement.{statement}

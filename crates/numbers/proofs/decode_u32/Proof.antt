@@ -2,7 +2,7 @@ use mathlib.Core.Path.{sym, ap, _∙_}
 use denote.Ref.{now}
 use lib.ListN.{drop}
 use Rattle.format.specs.Read.{told-found}
-use Rattle.numbers.specs.Formats.{u32}
+use Rattle.leb128.specs.Formats.{u32}
 use Rattle.numbers.specs.Answers.{readU64}
 use borrow.Author.Needs.{needs}
 use Rattle.numbers.proofs.decode_u32.Statement.{statement}

@@ -2,7 +2,7 @@ use mathlib.Core.Path.{_≡_}
 use mir.Syntax.{w64}
 use mir.Val.{toZ, ofZ}
 use mir.Facts.{toZ-ofZ}
-use Rattle.numbers.specs.Answers.{bySign}
+use Rattle.leb128.specs.Parts.{bySign}
 use Rattle.numbers.proofs.Signs.{sign-mag}
 use borrow.Author.Needs.{needs}
 use Rattle.numbers.proofs.encode_i64.Statement.{statement}

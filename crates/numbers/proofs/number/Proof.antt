@@ -1,0 +1,21 @@
+use mir.Syntax.{w64}
+use mir.Facts.{toZ-pos}
+use Rattle.numbers.proofs.Signs.{toZ-turned}
+use borrow.Author.Needs.{needs}
+use Rattle.numbers.proofs.number.Statement.{statement}
+use Rattle.numbers.proofs.number.Tie as tie
+
+cast-result : tie.Need-cast-result
+cast-result c = search needs
+
+cast-result-2 : tie.Need-cast-result-2
+cast-result-2 c = search needs
+
+returns : tie.Need-returns
+returns c = rw (c .if1 .taken) (toZ-turned (c .before .args .a) (c .before .pre))
+
+returns-2 : tie.Need-returns-2
+returns-2 c = rw (c .if1 .left) (toZ-pos w64 (c .before .pre))
+
+pub number-spec : {M : Type 1} → statement M
+number-spec = tie.close (tie.spec cast-result cast-result-2 returns returns-2)
