@@ -144,6 +144,12 @@ macro_rules! number {
                 }
                 a[..n].to_vec()
             }
+            // any bytes, damaged ones too, are read as the plain loop reads them
+            pub fn compare_read(bytes: &[u8]) {
+                let (mut a, mut b) = (0, 0);
+                let answers = (read($dec, bytes, 0, &mut a), read(plain_decode, bytes, 0, &mut b));
+                assert_eq!((answers.0, a), (answers.1, b), "{bytes:02X?}");
+            }
             pub fn run(width: u32, vs: &[$t]) {
                 let bytes: Vec<u8> = vs.iter().flat_map(|&v| compare(v)).collect();
                 let w = times(&[&|| write_all($enc, vs), &|| write_all(plain_encode, vs)]);
@@ -181,6 +187,38 @@ fn times(runs: &[&dyn Fn()]) -> Vec<f64> {
     least
 }
 
+fn compare_reads(bytes: &[u8]) {
+    u32s::compare_read(bytes);
+    u64s::compare_read(bytes);
+    i32s::compare_read(bytes);
+    i64s::compare_read(bytes);
+}
+
+// All inputs of up to three bytes, and a million longer ones in which every byte is likely to be one that matters.
+fn compare_all(random: &mut dyn FnMut() -> u64) {
+    compare_reads(&[]);
+    for x in 0..1u32 << 24 {
+        let bytes = x.to_le_bytes();
+        compare_reads(&bytes[..3]);
+        if x < 1 << 16 {
+            compare_reads(&bytes[..2]);
+        }
+        if x < 1 << 8 {
+            compare_reads(&bytes[..1]);
+        }
+    }
+    for _ in 0..1_000_000 {
+        let length = 4 + random() as usize % 8;
+        let bytes: Vec<u8> = (0..length)
+            .map(|i| {
+                let more = if i + 1 < length && random() % 16 != 0 { 0x80 } else { 0 };
+                more | [0x00, 0x01, 0x3F, 0x40, 0x7E, 0x7F, 0x0F, random() as u8 & 0x7F][random() as usize % 8]
+            })
+            .collect();
+        compare_reads(&bytes);
+    }
+}
+
 fn main() {
     black_box(pad_of_text as unsafe extern "C" fn());
     let mut x = 88172645463325252u64;
@@ -190,6 +228,9 @@ fn main() {
         x ^= x << 17;
         x
     };
+    if pad() == 0 {
+        compare_all(&mut random);
+    }
     for width in [7, 14, 32, 64] {
         // numbers of exactly so many bits, signed ones of both signs
         let vs: Vec<u64> = (0..50_000).map(|_| random() >> (64 - width) | 1 << (width - 1)).collect();

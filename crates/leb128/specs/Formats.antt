@@ -99,23 +99,22 @@ index = natural signed 64 (2 ^ 32) index-fits
 
 -- ---- the first byte: a last one, or one with the high bit set
 
--- any byte
+first : (s : Bool) (z : ℤ) (p : ℕ → Bool) (v : Bool) → (mag z < limit s → p (low z) ≡ v) → ((x : ℕ) → 128 ≤ x → x < 256 → p x ≡ v)
+    → (x : ℕ) × (t : List ℕ) × (leb s z ≡ x ∷ t) × (p x ≡ v)
+first s z p v h k =
+    ⊎-elim
+    (λ (g : limit s ≤ mag z). (low z + 128, leb s (shrZ z 128), leb-more s z g, k (low z + 128) (omega arith) (omega (arith, low-small z))))
+    (λ (g : mag z < limit s). (low z, [], leb-last s z g, h g))
+    (fits-or (limit s) (mag z))
+
+-- uN and sN: any byte
 pub heads-integer : (s : Bool) (N : ℕ) (p : ℕ → Bool) (v : Bool) → ((x : ℕ) → x < 256 → p x ≡ v) → Heads (integer s N) p v
-heads-integer s N p v h z ok = ⊎-elim more last (fits-or (limit s) (mag z))
-  where
-    more : limit s ≤ mag z → (x : ℕ) × (t : List ℕ) × (leb s z ≡ x ∷ t) × (p x ≡ v)
-    more g = (low z + 128, leb s (shrZ z 128), leb-more s z g, h (low z + 128) (omega (arith, low-small z)))
+heads-integer s N p v h z ok = first s z p v (λ g. h (low z) (omega (arith, low-small z))) (λ x a b. h x b)
 
-    last : mag z < limit s → (x : ℕ) × (t : List ℕ) × (leb s z ≡ x ∷ t) × (p x ≡ v)
-    last g = (low z, [], leb-last s z g, h (low z) (omega (arith, low-small z)))
-
--- of a natural number a last byte is below the limit, so that an index never begins with 40 to 7F
 pub heads-natural : (s : Bool) (N M : ℕ) (fits : (n : ℕ) → n < M → within s N (pos n) ≡ true) (p : ℕ → Bool) (v : Bool)
     → ((x : ℕ) → x < limit s → p x ≡ v) → ((x : ℕ) → 128 ≤ x → x < 256 → p x ≡ v) → Heads (natural s N M fits) p v
-heads-natural s N M fits p v h k n ok = ⊎-elim more last (fits-or (limit s) n)
-  where
-    more : limit s ≤ n → (x : ℕ) × (t : List ℕ) × (leb s (pos n) ≡ x ∷ t) × (p x ≡ v)
-    more g = (low (pos n) + 128, leb s (shrZ (pos n) 128), leb-more s (pos n) g, k (low (pos n) + 128) (omega arith) (omega arith))
+heads-natural s N M fits p v h k n ok = first s (pos n) p v (λ g. h (low (pos n)) (omega arith)) k
 
-    last : n < limit s → (x : ℕ) × (t : List ℕ) × (leb s (pos n) ≡ x ∷ t) × (p x ≡ v)
-    last g = (low (pos n), [], leb-last s (pos n) g, h (low (pos n)) (omega arith))
+-- an index never begins with 40 to 7F
+pub heads-index : (p : ℕ → Bool) (v : Bool) → ((x : ℕ) → x < 0x40 → p x ≡ v) → ((x : ℕ) → 0x80 ≤ x → x < 0x100 → p x ≡ v) → Heads index p v
+heads-index p v h k = heads-natural signed 64 (2 ^ 32) index-fits p v h k
