@@ -7,9 +7,10 @@ use lib.Dec.{T}
 use lib.IntN.{ℤ, pos, negsuc, natAbs}
 use lib.Signed.{mag, ltZ, nonNeg}
 use borrow.Author.Tests.{ltb-true, le-ltb}
-use mir.Syntax.{Width, w32, w64}
-use mir.Val.{Fits, SFits, hbits, toZ, ofZ}
+use mir.Syntax.{w32, w64}
+use mir.Val.{Fits, SFits, toZ, ofZ}
 use mir.Facts.{toZ-pos, toZ-neg, toZ-ofZ, sfits-widen}
+use Rattle.leb128.specs.Leb.{signed, within}
 use Rattle.leb128.specs.Parts.{bySign, mag-sign}
 
 -- a number is its sign and its magnitude
@@ -54,15 +55,17 @@ widened v f = ap (λ (z : ℤ). toZ w64 (ofZ w64 z)) (toZ-ofZ f) ∙ toZ-ofZ (sf
 pub toZ-turned : (a : ℕ) → a < 2 ^ 63 → toZ w64 (2 ^ 64 - 1 - a) ≡ negsuc a
 toZ-turned a h = let e : 2 ^ 64 - 1 - a ≡ 2 ^ 64 - suc a = omega arith in rw e (toZ-neg w64 a h)
 
--- a number of a sign and a magnitude, as it is returned, and as it is cast to 32 bits and returned
-sign-fits : (w : Width) (neg : Bool) (a : ℕ) → a < 2 ^ hbits w → SFits w (bySign neg a)
-sign-fits w neg a h = record { sfits = rw (mag-sign neg a) h }
-
+-- a number of a sign and a magnitude, as it is returned
 pub back64 : {r : ℤ} (neg : Bool) (a : ℕ) → r ≡ bySign neg a → a < 2 ^ 63 → toZ w64 (ofZ w64 r) ≡ bySign neg a
-back64 neg a e h = rw e (toZ-ofZ (sign-fits w64 neg a h))
+back64 neg a e h = rw e (toZ-ofZ (record { sfits = rw (mag-sign neg a) h }))
 
-pub cast32 : {r : ℤ} (neg : Bool) (a : ℕ) → r ≡ bySign neg a → a < 2 ^ 31 → SFits w32 (toZ w64 (ofZ w64 r))
-cast32 neg a e h = rw (back64 neg a e (omega arith)) (sign-fits w32 neg a h)
+-- a number of 32 bits among those of 64, as it is cast and returned
+module _ (z : ℤ) (w : within signed 32 z ≡ true) where
+  narrow : SFits w32 z
+  narrow = record { sfits = ltb-true (mag z) (2 ^ 31) w }
 
-pub back32 : {r : ℤ} (neg : Bool) (a : ℕ) → r ≡ bySign neg a → a < 2 ^ 31 → toZ w32 (ofZ w32 (toZ w64 (ofZ w64 r))) ≡ bySign neg a
-back32 neg a e h = rw (back64 neg a e (omega arith)) (toZ-ofZ (sign-fits w32 neg a h))
+  pub cast32 : SFits w32 (toZ w64 (ofZ w64 z))
+  cast32 = rw (toZ-ofZ (sfits-widen tt narrow)) narrow
+
+  pub back32 : toZ w32 (ofZ w32 (toZ w64 (ofZ w64 z))) ≡ z
+  back32 = ap (λ (y : ℤ). toZ w32 (ofZ w32 y)) (toZ-ofZ (sfits-widen tt narrow)) ∙ toZ-ofZ narrow

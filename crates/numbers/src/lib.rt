@@ -9,7 +9,7 @@ ghost use Prim.Native.Nat.{_%_, _≤_, _<_, _^_};
 ghost use Rattle.format.specs.Read.{reading};
 ghost use Rattle.format.specs.Write.{Writes};
 ghost use Rattle.leb128.specs.Leb.{uleb, sleb};
-ghost use Rattle.leb128.specs.Formats.{uN, u32, u64, s32, s64, index};
+ghost use Rattle.leb128.specs.Formats.{uN, sN, u32, u64, s32, s64, index};
 ghost use Rattle.leb128.specs.Parts.{bySign};
 ghost use Rattle.numbers.specs.Answers.{readU32, readU64, readI32, readI64};
 
@@ -125,22 +125,29 @@ fn number(neg: bool, a: u64) -> i64
     if neg { !(a as i64) } else { a as i64 }
 }
 
+fn decode_signed(bits: u32, s: &[u8], at: usize) -> ReadI64
+    requires { ⌜ (1 ≤ bits % 7) × (bits ≤ 64) ⌝ }
+    ensures { λ r. ⌜ readI64 r ≡ reading (pos 0) (now (s .entry)) (sN bits .parse (drop at (now (s .entry)))) ⌝ }
+{
+    let Parts::Value(neg, a, end) = leb128::decode(true, bits, s, at) else {
+        return ReadI64::Nothing;
+    };
+    ReadI64::Value(number(neg, a), end)
+}
+
 pub fn decode_i32(s: &[u8], at: usize) -> ReadI32
     ensures { λ r. ⌜ readI32 r ≡ reading (pos 0) (now (s .entry)) (s32 .parse (drop at (now (s .entry)))) ⌝ }
 {
-    let Parts::Value(neg, a, end) = leb128::decode(true, 32, s, at) else {
+    let ReadI64::Value(v, end) = decode_signed(32, s, at) else {
         return ReadI32::Nothing;
     };
-    ReadI32::Value(number(neg, a) as i32, end)
+    ReadI32::Value(v as i32, end)
 }
 
 pub fn decode_i64(s: &[u8], at: usize) -> ReadI64
     ensures { λ r. ⌜ readI64 r ≡ reading (pos 0) (now (s .entry)) (s64 .parse (drop at (now (s .entry)))) ⌝ }
 {
-    let Parts::Value(neg, a, end) = leb128::decode(true, 64, s, at) else {
-        return ReadI64::Nothing;
-    };
-    ReadI64::Value(number(neg, a), end)
+    decode_signed(64, s, at)
 }
 
 pub fn decode_index(s: &[u8], at: usize) -> ReadU32

@@ -5,15 +5,6 @@ use borrow.Author.Needs.{needs}
 use Rattle.format.proofs.append_byte.Statement.{statement}
 use Rattle.format.proofs.append_byte.Tie as tie
 
-more-requires : tie.Need-more-requires
-more-requires c κs = search needs
-
-slice-write-out : tie.Need-slice-write-out
-slice-write-out c = search needs
-
-same-length : tie.Need-same-length
-same-length c = search needs
-
 returns : tie.Need-returns
 returns c = let a = c .before .before .before .args in adds-set (a .b) (now (a .out)) (a .s) _ (c .before .more .ensures) refl
 
@@ -21,4 +12,4 @@ returns-2 : tie.Need-returns-2
 returns-2 c = let a = c .before .before .before .args in adds-past (a .b) (now (a .out)) (a .s) _ (c .before .more .ensures) refl (c .if1 .left)
 
 pub append-byte-spec : {M : Type 1} → statement M
-append-byte-spec = tie.close (tie.spec more-requires slice-write-out same-length returns returns-2)
+append-byte-spec = tie.close (tie.spec (λ c κs. search needs) (λ c. search needs) (λ c. search needs) returns returns-2)

@@ -5,18 +5,6 @@ use borrow.Author.Needs.{needs}
 use Rattle.format.proofs.append_word.Statement.{statement}
 use Rattle.format.proofs.append_word.Tie as tie
 
-more-requires : tie.Need-more-requires
-more-requires c κs = search needs
-
-mul-out : tie.Need-mul-out
-mul-out c = search needs
-
-slice-write-out : tie.Need-slice-write-out
-slice-write-out c = search needs
-
-same-length : tie.Need-same-length
-same-length c = search needs
-
 returns : tie.Need-returns
 returns c = let a = c .before .before .before .args in adds-set (a .w) (now (a .out)) (a .s) _ (c .before .more .ensures) refl
 
@@ -25,4 +13,4 @@ returns-2 c = let a = c .before .before .before .args in adds-past (a .w) (now (
 
 pub append-word-spec : {M : Type 1} → statement M
 append-word-spec =
-    tie.close (tie.spec more-requires mul-out slice-write-out same-length returns returns-2)
+    tie.close (tie.spec (λ c κs. search needs) (λ c. search needs) (λ c. search needs) (λ c. search needs) returns returns-2)

@@ -9,12 +9,6 @@ use Rattle.format.proofs.copy.Tie as tie
 returns : tie.Need-returns
 returns c = writes-not (c .if1 .taken)
 
-copy-requires : tie.Need-copy-requires
-copy-requires c κs = search needs
-
-same-length : tie.Need-same-length
-same-length c = search needs
-
 returns-2 : tie.Need-returns-2
 returns-2 c =
     let a = c .before .before .before .before .before .before .before .args in
@@ -22,4 +16,4 @@ returns-2 c =
     writes (c .before .before .before .before .if1 .left) (w .ensures .0) (w .ensures .1 ∙ rw (take-length (now (a .b))))
 
 pub copy-spec : {M : Type 1} → statement M
-copy-spec = tie.close (tie.spec returns copy-requires same-length returns-2)
+copy-spec = tie.close (tie.spec returns (λ c κs. search needs) (λ c. search needs) returns-2)

@@ -1,47 +1,33 @@
-use native.Mathlib.Omega.{arith}
+use lib.IntN.{pos}
+use Rattle.numbers.proofs.Signs.{cast32, back32}
+use mathlib.Core.Path.{sym, ap, _∙_}
 use denote.Ref.{now}
-use Rattle.leb128.specs.Leb.{signed}
-use Rattle.numbers.proofs.Answering.{integer-none, integer-found, signed-fits}
-use Rattle.numbers.proofs.Signs.{back32, cast32}
+use lib.ListN.{drop}
+use Rattle.format.specs.Read.{told-found}
+use Rattle.leb128.specs.Formats.{s32}
+use Rattle.numbers.specs.Answers.{readI64}
 use borrow.Author.Needs.{needs}
 use Rattle.numbers.proofs.decode_i32.Statement.{statement}
 use Rattle.numbers.proofs.decode_i32.Tie as tie
 
-decode-requires : tie.Need-decode-requires
-decode-requires c κs = search needs
-
-enum-known-neg : tie.Need-enum-known-neg
-enum-known-neg c = search needs
-
-enum-told : tie.Need-enum-told
-enum-told c = search needs
-
 returns : tie.Need-returns
-returns c =
-    let a = c .before .before .before .before .args in
-    integer-none signed 32 (now (a .s)) (a .at) (c .before .before .decode .ensures) (c .enum-told .given .1)
+returns c = sym (ap readI64 (c .enum-told .given .1)) ∙ c .before .before .decode-signed .ensures
 
-number-requires : tie.Need-number-requires
-number-requires c κs =
+cast-t6 : tie.Need-cast-t6
+cast-t6 c =
     let a = c .before .before .before .before .before .args in
-    let f = signed-fits 32 (now (a .s)) (a .at) (c .before .before .before .decode .ensures) (c .before .neg .given .1) in
-    omega arith
-
-cast-t8 : tie.Need-cast-t8
-cast-t8 c =
-    let a = c .before .before .before .before .before .before .args in
-    let v = c .before .before .neg .given in
-    cast32 (v .0 .0) (v .0 .1 .0) (c .number .ensures) (signed-fits 32 (now (a .s)) (a .at) (c .before .before .before .before .decode .ensures) (v .1))
+    let v = c .before .v .given in
+    let t = told-found (pos 0) (now (a .s)) s32 (a .at) (sym (ap readI64 (v .1)) ∙ c .before .before .before .decode-signed .ensures) in
+    cast32 (v .0 .0) (s32 .only (drop (a .at) (now (a .s))) _ _ (t .0) .0)
 
 returns-2 : tie.Need-returns-2
 returns-2 c =
-    let a = c .before .before .before .before .before .before .args in
-    let d = c .before .before .before .before .decode .ensures in
-    let v = c .before .before .neg .given in
-    let f = signed-fits 32 (now (a .s)) (a .at) d (v .1) in
-    rw (back32 (v .0 .0) (v .0 .1 .0) (c .number .ensures) f) (integer-found signed 32 (now (a .s)) (a .at) d (v .1))
+    let a = c .before .before .before .before .before .args in
+    let v = c .before .v .given in
+    let e = sym (ap readI64 (v .1)) ∙ c .before .before .before .decode-signed .ensures in
+    let t = told-found (pos 0) (now (a .s)) s32 (a .at) e in
+    rw (back32 (v .0 .0) (s32 .only (drop (a .at) (now (a .s))) _ _ (t .0) .0)) e
 
 pub decode-i32-spec : {M : Type 1} → statement M
 decode-i32-spec =
-    tie.close
-    (tie.spec decode-requires enum-known-neg enum-told returns number-requires cast-t8 returns-2)
+    tie.close (tie.spec (λ c κs. search needs) (λ c. search needs) (λ c. search needs) returns cast-t6 returns-2)

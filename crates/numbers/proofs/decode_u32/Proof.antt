@@ -8,15 +8,6 @@ use borrow.Author.Needs.{needs}
 use Rattle.numbers.proofs.decode_u32.Statement.{statement}
 use Rattle.numbers.proofs.decode_u32.Tie as tie
 
-decode-unsigned-requires : tie.Need-decode-unsigned-requires
-decode-unsigned-requires c κs = search needs
-
-enum-known-v : tie.Need-enum-known-v
-enum-known-v c = search needs
-
-enum-told : tie.Need-enum-told
-enum-told c = search needs
-
 returns : tie.Need-returns
 returns c = sym (ap readU64 (c .enum-told .given .1)) ∙ c .before .before .decode-unsigned .ensures
 
@@ -32,4 +23,4 @@ returns-2 c = sym (ap readU64 (c .before .v .given .1)) ∙ c .before .before .b
 
 pub decode-u32-spec : {M : Type 1} → statement M
 decode-u32-spec =
-    tie.close (tie.spec decode-unsigned-requires enum-known-v enum-told returns cast-t6 returns-2)
+    tie.close (tie.spec (λ c κs. search needs) (λ c. search needs) (λ c. search needs) returns cast-t6 returns-2)

@@ -7,14 +7,8 @@ use Rattle.numbers.proofs.encode_i32.Tie as tie
 cast-encode-i64 : tie.Need-cast-encode-i64
 cast-encode-i64 c = rw (toZ-ofZ (c .before .fits .v)) (sfits-widen tt (c .before .fits .v))
 
-encode-i64-requires : tie.Need-encode-i64-requires
-encode-i64-requires c κs = search needs
-
-same-length : tie.Need-same-length
-same-length c = search needs
-
 returns : tie.Need-returns
 returns c = let s = c .before .before .before .before .before in rw (widened (s .args .v) (s .fits .v)) at (c .before .before .encode-i64 .ensures)
 
 pub encode-i32-spec : {M : Type 1} → statement M
-encode-i32-spec = tie.close (tie.spec cast-encode-i64 encode-i64-requires same-length returns)
+encode-i32-spec = tie.close (tie.spec cast-encode-i64 (λ c κs. search needs) (λ c. search needs) returns)

@@ -8,18 +8,6 @@ use borrow.Author.Needs.{needs}
 use Rattle.numbers.proofs.encode_i64.Statement.{statement}
 use Rattle.numbers.proofs.encode_i64.Tie as tie
 
-negative-requires : tie.Need-negative-requires
-negative-requires c κs = search needs
-
-magnitude-requires : tie.Need-magnitude-requires
-magnitude-requires c κs = search needs
-
-encode-requires : tie.Need-encode-requires
-encode-requires c κs = search needs
-
-same-length : tie.Need-same-length
-same-length c = search needs
-
 returns : tie.Need-returns
 returns c =
     let v = c .before .before .before .before .before .before .before .args .v in
@@ -29,4 +17,4 @@ returns c =
 
 pub encode-i64-spec : {M : Type 1} → statement M
 encode-i64-spec =
-    tie.close (tie.spec negative-requires magnitude-requires encode-requires same-length returns)
+    tie.close (tie.spec (λ c κs. search needs) (λ c κs. search needs) (λ c κs. search needs) (λ c. search needs) returns)

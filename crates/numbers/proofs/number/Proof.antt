@@ -5,12 +5,6 @@ use borrow.Author.Needs.{needs}
 use Rattle.numbers.proofs.number.Statement.{statement}
 use Rattle.numbers.proofs.number.Tie as tie
 
-cast-result : tie.Need-cast-result
-cast-result c = search needs
-
-cast-result-2 : tie.Need-cast-result-2
-cast-result-2 c = search needs
-
 returns : tie.Need-returns
 returns c = rw (c .if1 .taken) (toZ-turned (c .before .args .a) (c .before .pre))
 
@@ -18,4 +12,4 @@ returns-2 : tie.Need-returns-2
 returns-2 c = rw (c .if1 .left) (toZ-pos w64 (c .before .pre))
 
 pub number-spec : {M : Type 1} → statement M
-number-spec = tie.close (tie.spec cast-result cast-result-2 returns returns-2)
+number-spec = tie.close (tie.spec (λ c. search needs) (λ c. search needs) returns returns-2)

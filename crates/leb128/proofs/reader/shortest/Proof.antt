@@ -4,9 +4,6 @@ use borrow.Author.Needs.{needs}
 use Rattle.leb128.proofs.reader.shortest.Statement.{statement}
 use Rattle.leb128.proofs.reader.shortest.Tie as tie
 
-shorter-requires : tie.Need-shorter-requires
-shorter-requires c κs = search needs
-
 returns : tie.Need-returns
 returns c = let a = c .before .before .before .args in sym (short-is (a .signed) (a .neg) (a .a) (a .shift) (a .end) (sym (c .before .shorter .ensures) ∙ c .if2 .taken))
 
@@ -17,4 +14,4 @@ returns-3 : tie.Need-returns-3
 returns-3 c = let a = c .before .args in let p = c .before .pre in sym (short-is (a .signed) (a .neg) (a .a) (a .shift) (a .end) (needs-top (a .signed) (a .a) (a .shift) (p .1) (λ e. c .if1 .left (sym (p .2) ∙ e))))
 
 pub shortest-spec : {M : Type 1} → statement M
-shortest-spec = tie.close (tie.spec shorter-requires returns returns-2 returns-3)
+shortest-spec = tie.close (tie.spec (λ c κs. search needs) returns returns-2 returns-3)

@@ -5,8 +5,5 @@ use Rattle.leb128.proofs.reader.sign.Tie as tie
 returns : tie.Need-returns
 returns c = rw (c .if1 .taken)
 
-returns-2 : tie.Need-returns-2
-returns-2 c = search needs
-
 pub sign-spec : {M : Type 1} → statement M
-sign-spec = tie.close (tie.spec returns returns-2)
+sign-spec = tie.close (tie.spec returns (λ c. search needs))

@@ -7,18 +7,6 @@ use borrow.Author.Needs.{needs}
 use Rattle.leb128.proofs.reader.whole.Statement.{statement}
 use Rattle.leb128.proofs.reader.whole.Tie as tie
 
-sign-requires : tie.Need-sign-requires
-sign-requires c κs = search needs
-
-flip-requires : tie.Need-flip-requires
-flip-requires c κs = search needs
-
-add-ones : tie.Need-add-ones
-add-ones c = search needs
-
-ones-requires : tie.Need-ones-requires
-ones-requires c κs = search needs
-
 shortest-requires : tie.Need-shortest-requires
 shortest-requires c κs =
     let a = c .before .before .before .args in
@@ -36,4 +24,4 @@ returns c =
 pub whole-spec : {M : Type 1} → statement M
 whole-spec =
     tie.close
-    (tie.spec sign-requires flip-requires add-ones ones-requires shortest-requires returns)
+    (tie.spec (λ c κs. search needs) (λ c κs. search needs) (λ c. search needs) (λ c κs. search needs) shortest-requires returns)

@@ -12,11 +12,8 @@ returns c =
     let h = ten (a .signed) (a .a) (c .before .fits .a .fits) in
     sym (le-leb _ (a .room) (omega arith))
 
-size-requires : tie.Need-size-requires
-size-requires c κs = search needs
-
 returns-2 : tie.Need-returns-2
 returns-2 c = rw (c .size .ensures)
 
 pub fits-spec : {M : Type 1} → statement M
-fits-spec = tie.close (tie.spec returns size-requires returns-2)
+fits-spec = tie.close (tie.spec returns (λ c κs. search needs) returns-2)

@@ -16,9 +16,6 @@ Inv-loop signed a limit w₀ n₀ w n = n + length (leb signed (pos w)) ≡ 1 + 
 abbrev μ-loop : tie.MeasureT-loop
 μ-loop signed a limit w₀ n₀ w n = w
 
-last-limit-requires : tie.Need-last-limit-requires Inv-loop μ-loop
-last-limit-requires c κs = search needs
-
 loop-holds : tie.Need-loop-holds Inv-loop μ-loop
 loop-holds c = refl
 
@@ -45,4 +42,4 @@ returns c =
 pub size-spec : {M : Type 1} → statement M
 size-spec =
     tie.close
-    (tie.spec Inv-loop μ-loop last-limit-requires loop-holds add-n loop-less loop-again returns)
+    (tie.spec Inv-loop μ-loop (λ c κs. search needs) loop-holds add-n loop-less loop-again returns)
