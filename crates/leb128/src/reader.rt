@@ -92,7 +92,7 @@ fn last(signed: bool, bits: u32, b: u8, low: u64, shift: u32, end: usize) -> Par
     shortest(signed, neg, top, a, shift, end)
 }
 
-// A number of so many bits at a place, in its shortest form.
+// A number of so many bits at a place, in its shortest form. No width in use is a multiple of seven, so the last group that a width allows is cut.
 pub fn decode(signed: bool, bits: u32, s: &[u8], at: usize) -> Parts
     requires { ⌜ (1 ≤ bits % 7) × (bits ≤ 64) ⌝ }
     ensures { λ r. ⌜ r ≡ partsOf (now (s .entry)) (short signed bits (drop at (now (s .entry)))) ⌝ }

@@ -46,6 +46,7 @@ fn fits(signed: bool, a: u64, room: usize) -> bool
     size(signed, a) <= room
 }
 
+// Measured first, so that a refusal changes nothing, and then written forwards.
 fn encode_long(signed: bool, neg: bool, a: u64, out: &mut [u8]) -> Written
     ensures { λ r. ⌜ Writes (leb signed (bySign neg a)) (now (out .entry)) (now (out .exit)) r ⌝ }
 {

@@ -34,6 +34,8 @@ pub enum ReadI64 {
     Nothing,
 }
 
+// Writers: at the front of `out`, the rest of a buffer from its current end on. They answer how many bytes they wrote, or that there is no room (10), and
+// then they have changed nothing.
 pub fn encode_u32(v: u32, out: &mut [u8]) -> Written
     ensures { λ r. ⌜ Writes (uleb v) (now (out .entry)) (now (out .exit)) r ⌝ }
 {
@@ -71,20 +73,22 @@ pub fn encode_i64(v: i64, out: &mut [u8]) -> Written
     leb128::encode(true, negative(v), magnitude(v), out)
 }
 
-// An index, as a signed number of 64 bits.
+// An index of a heap type: a signed number of 64 bits.
 pub fn encode_index(v: u32, out: &mut [u8]) -> Written
     ensures { λ r. ⌜ Writes (sleb (pos v)) (now (out .entry)) (now (out .exit)) r ⌝ }
 {
     leb128::encode(true, false, v as u64, out)
 }
 
+// How many bytes `encode_u32` writes.
 pub fn encoding_size(n: u32) -> usize
     ensures { λ r. ⌜ r ≡ length (uleb n) ⌝ }
 {
     leb128::size(false, n as u64)
 }
 
-// Most numbers without a sign take one byte.
+// Readers: what stands in `s` from the place `at` on, however far that is. They answer a number in its shortest form and the place behind it, or that none
+// begins there (11). Most numbers without a sign take one byte.
 fn decode_unsigned(bits: u32, s: &[u8], at: usize) -> ReadU64
     requires { ⌜ (7 ≤ bits) × (1 ≤ bits % 7) × (bits ≤ 64) ⌝ }
     ensures { λ r. ⌜ readU64 r ≡ reading 0 (now (s .entry)) (uN bits .parse (drop at (now (s .entry)))) ⌝ }

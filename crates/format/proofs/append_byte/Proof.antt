@@ -1,3 +1,4 @@
+-- `format::append_byte` meets its contract: a store at the current end, or nothing where the buffer is full. Assumes nothing.
 use Rattle.format.specs.Count.{adds-set, adds-past}
 use denote.Ref.{now}
 use mathlib.Core.Path.{refl}

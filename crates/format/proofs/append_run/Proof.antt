@@ -1,3 +1,4 @@
+-- `format::append_run` meets its contract: the copy leaf was lent the part from the current end on. Assumes nothing.
 use Rattle.format.specs.Count.{adds-part}
 use denote.Ref.{now}
 use mathlib.Core.Path.{refl}

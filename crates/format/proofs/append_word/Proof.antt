@@ -1,3 +1,4 @@
+-- `format::append_word` meets its contract: as `append_byte` does, on words. Assumes nothing.
 use Rattle.format.specs.Count.{adds-set, adds-past}
 use denote.Ref.{now}
 use mathlib.Core.Path.{refl}

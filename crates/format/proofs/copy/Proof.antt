@@ -1,3 +1,4 @@
+-- `format::copy` meets its contract: a length test, and what `bytes::copy` leaves. Assumes nothing.
 use denote.Ref.{now}
 use mathlib.Core.Path.{_∙_}
 use lib.Seq.{take-length}

@@ -1,3 +1,4 @@
+-- `format::lower` meets its contract: of two numbers the test picks the smaller. Assumes nothing.
 use Prim.Native.Nat.{ℕ, min}
 use mathlib.Core.Path.{_≡_, ap}
 use native.Mathlib.Omega.{arith}

@@ -1,3 +1,4 @@
+-- `numbers::decode_i32` meets its contract: a number of 32 bits fits its type. Assumes nothing.
 use lib.IntN.{pos}
 use Rattle.numbers.proofs.Signs.{cast32, back32}
 use mathlib.Core.Path.{sym, ap, _∙_}

@@ -1,3 +1,4 @@
+-- `numbers::decode_index` meets its contract: negative numbers and those of more than 32 bits are no index. Assumes nothing.
 use Prim.Native.Nat.{_^_}
 use native.Mathlib.Omega.{arith}
 use denote.Ref.{now}

@@ -1,3 +1,4 @@
+-- `numbers::decode_signed` meets its contract: the number of its sign and its magnitude. Assumes nothing.
 use Prim.Native.Nat.{_-_}
 use native.Mathlib.Nat.{lt-of-lt-of-le}
 use native.Mathlib.Omega.{arith}

@@ -1,3 +1,4 @@
+-- `numbers::decode_u32` meets its contract: a number of 32 bits fits its type. Assumes nothing.
 use mathlib.Core.Path.{sym, ap, _∙_}
 use denote.Ref.{now}
 use lib.ListN.{drop}

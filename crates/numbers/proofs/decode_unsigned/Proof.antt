@@ -1,3 +1,4 @@
+-- `numbers::decode_unsigned` meets its contract: a number of one byte is that byte, and any other what `leb128::decode` finds. Assumes nothing.
 use Prim.Native.Nat.{_^_}
 use native.Mathlib.Omega.{arith}
 use denote.Ref.{now}

@@ -1,3 +1,4 @@
+-- `numbers::encode_i32` meets its contract: a number of 32 bits is one of 64. Assumes nothing.
 use mir.Facts.{toZ-ofZ, sfits-widen}
 use Rattle.numbers.proofs.Signs.{widened}
 use borrow.Author.Needs.{needs}

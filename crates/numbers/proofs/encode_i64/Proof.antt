@@ -1,3 +1,4 @@
+-- `numbers::encode_i64` meets its contract: a number is its sign and its magnitude. Assumes nothing.
 use mathlib.Core.Path.{_≡_}
 use mir.Syntax.{w64}
 use mir.Val.{toZ, ofZ}

@@ -1,3 +1,4 @@
+-- `numbers::magnitude` meets its contract: of a negative number the bits are turned over. Assumes nothing.
 use Rattle.numbers.proofs.Signs.{cast-turned, cast-same, mag-turned, mag-same}
 use Rattle.numbers.proofs.magnitude.Statement.{statement}
 use Rattle.numbers.proofs.magnitude.Tie as tie

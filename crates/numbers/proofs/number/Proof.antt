@@ -1,3 +1,4 @@
+-- `numbers::number` meets its contract. Assumes nothing.
 use mir.Syntax.{w64}
 use mir.Facts.{toZ-pos}
 use Rattle.numbers.proofs.Signs.{toZ-turned}

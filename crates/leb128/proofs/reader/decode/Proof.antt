@@ -1,3 +1,4 @@
+-- `leb128::reader::decode` meets its contract: the whole answer stays what was read so far in front of what is left to read. Assumes nothing.
 use mathlib.Core.Path.{_≡_, ap, _∙_}
 use Prim.Native.Nat.{ℕ, _+_, _-_, _*_, _%_, _<_, _^_}
 use native.Mathlib.Omega.{arith}

@@ -1,3 +1,4 @@
+-- `leb128::reader::last` meets its contract: the bits of the group that the width has no room for must be empty. Assumes nothing.
 use lib.Pow.{pow-mono}
 use mathlib.Core.Path.{ap, _∙_}
 use Prim.Native.Nat.{_≤_, _^_}

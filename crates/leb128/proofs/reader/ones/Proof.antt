@@ -1,3 +1,4 @@
+-- `leb128::reader::ones` meets its contract: nothing of 2^k is shifted out. Assumes nothing.
 use native.Mathlib.Omega.{arith}
 use lib.Pow.{pow-pos}
 use Rattle.leb128.proofs.Reading.{one-up}

@@ -1,3 +1,4 @@
+-- `leb128::reader::shorter` meets its contract: a shift tests the bits above those that so many groups hold. Assumes nothing.
 use native.Mathlib.Omega.{arith}
 use Rattle.leb128.proofs.Reading.{shorter-none, shorter-more}
 use borrow.Author.Needs.{needs}

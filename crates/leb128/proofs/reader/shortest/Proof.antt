@@ -1,3 +1,4 @@
+-- `leb128::reader::shortest` meets its contract: only where the last group is empty can fewer bytes do. Assumes nothing.
 use mathlib.Core.Path.{sym, _∙_}
 use Rattle.leb128.proofs.Reading.{short-is, needs-top}
 use borrow.Author.Needs.{needs}

@@ -1,3 +1,4 @@
+-- `leb128::reader::sign` meets its contract. Assumes nothing.
 use borrow.Author.Needs.{needs}
 use Rattle.leb128.proofs.reader.sign.Statement.{statement}
 use Rattle.leb128.proofs.reader.sign.Tie as tie

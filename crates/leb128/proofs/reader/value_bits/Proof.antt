@@ -1,3 +1,4 @@
+-- `leb128::reader::value_bits` meets its contract. Assumes nothing.
 use native.Mathlib.Omega.{arith}
 use borrow.Author.Needs.{needs}
 use Rattle.leb128.proofs.reader.value_bits.Statement.{statement}

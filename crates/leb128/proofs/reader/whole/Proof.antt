@@ -1,3 +1,4 @@
+-- `leb128::reader::whole` meets its contract: all that was read is turned over at once. Assumes nothing.
 use mathlib.Core.Path.{ap, _∙_}
 use native.Mathlib.Omega.{arith}
 use lib.IntN.{ℤ}

@@ -1,3 +1,4 @@
+-- `leb128::writer::encode` meets its contract: a number that a last byte holds is that byte. Assumes nothing.
 use native.Mathlib.Omega.{arith}
 use denote.Ref.{now}
 use lib.Bits.{and-le-r}

@@ -1,3 +1,4 @@
+-- `leb128::writer::encode_long` meets its contract: what the buffer will be, once the rest w is written from place i on, stays what it is to be. Assumes nothing.
 use mathlib.Core.Path.{_≡_, refl, sym, ap, _∙_}
 use mathlib.Core.List.{[]}
 use Prim.Native.Nat.{_+_, _/_, _≤_, _<_}

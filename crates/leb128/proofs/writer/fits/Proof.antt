@@ -1,3 +1,4 @@
+-- `leb128::writer::fits` meets its contract: ten bytes are enough for any number. Assumes nothing.
 use mathlib.Core.Path.{sym}
 use borrow.Author.Tests.{le-leb}
 use native.Mathlib.Omega.{arith}

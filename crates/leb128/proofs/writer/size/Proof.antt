@@ -1,3 +1,4 @@
+-- `leb128::writer::size` meets its contract: what is counted and what is left to count make one more than the whole, since the last byte is counted at the start. Assumes nothing.
 use Rattle.leb128.proofs.Writing.{ten}
 use mathlib.Core.Path.{_≡_, refl, ap}
 use Prim.Native.Nat.{_+_}
