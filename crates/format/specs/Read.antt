@@ -1,4 +1,5 @@
 -- Reading at a place of a slice: what stands from there on, what a reader answers, and what its answer tells. Assumes nothing.
+use mathlib.Core.Logic.{_↔_}
 use mathlib.Core.Path.{_≡_, refl, sym, _∙_, ap}
 use mathlib.Core.List.{List, [], _∷_, _++_, append-assoc}
 use Prim.Native.Nat.{ℕ, _+_, _-_, _<_, _≤_}
@@ -9,7 +10,7 @@ use lib.Dec.{eqb}
 use lib.ListN.{length, getD, take, drop, length-append, length-drop, take-append-drop, drop-of-length-le}
 use lib.Seq.{drop-cons, drop-append-seam}
 use Rattle.format.specs.Parsed.{Parsed, fail, got}
-use Rattle.format.specs.Format.{Format}
+use Rattle.format.specs.Format.{Format, refuses}
 
 -- ---- what stands from a place on
 
@@ -84,6 +85,15 @@ module _ {A : Type 0} (zero : A) (s : List ℕ) where
       go : (m : Parsed A) → nothing zero ≡ reading zero s m → m ≡ fail
       go fail w = refl
       go (got b t) w = let z : _≡_ {A = ℕ} 11 0 = ap (λ (o : Outcome A). o .number) w in absurd (omega arith)
+
+-- 11 is given exactly where nothing that the format prints begins the numbers t
+pub eleven-exactly : {A : Type 0} (F : Format A) (zero : A) (s t : List ℕ)
+    → (reading zero s (F .parse t) .number ≡ 11) ↔ ((a : A) (r : List ℕ) → F .Ok a → t ≡ F .print a ++ r → ⊥)
+eleven-exactly {A} F zero s t = (λ e. refuses F t .0 (only (F .parse t) e), λ h. ap (λ (m : Parsed A). reading zero s m .number) (refuses F t .1 h))
+  where
+    only : (m : Parsed A) → reading zero s m .number ≡ 11 → m ≡ fail
+    only fail e = refl
+    only (got a r) e = absurd (omega arith)
 
 -- ---- an answer by its outcome: any two that stand for the same outcome are equal
 

@@ -1,6 +1,6 @@
 -- What writing answers and leaves: the one vocabulary of every writer into the rest of a lent buffer. Assumes nothing.
 use mathlib.Core.Path.{_≡_, refl, sym, _∙_, ap}
-use mathlib.Core.Logic.{_⊎_, inl, inr, ⊎-elim}
+use mathlib.Core.Logic.{_↔_, _⊎_, inl, inr, ⊎-elim}
 use mathlib.Core.Bool.{Bool, true, false, cond}
 use mathlib.Core.List.{List, [], _∷_, _++_, append-assoc, append-nil}
 use Prim.Native.Nat.{ℕ, suc, _+_, _-_, _≤_, _<_}
@@ -98,6 +98,13 @@ told-short {b} {xs} {ys} {r} w e = ⊎-elim (λ h. absurd (never h)) (λ h. (h, 
   where
     never : length b ≤ length xs → ⊥
     never h = let z : _≡_ {A = ℕ} 0 1 = cc (wrote w h .0) in omega arith
+
+-- 10 is given exactly where the output is shorter than the result
+pub ten-exactly : {b xs ys : List ℕ} {r : Written} → Writes b xs ys r → (outcome r ys .number ≡ 10) ↔ (length xs < length b)
+ten-exactly {b} {xs} {ys} {r} w = (λ e. ⊎-elim (λ h. absurd (fit e h)) (λ h. h) (fits-or (length b) (length xs)), λ h. ap (λ (o : Outcome). o .number) (w .right ∙ writing-short b xs h))
+  where
+    fit : outcome r ys .number ≡ 10 → length b ≤ length xs → ⊥
+    fit e h = let z : outcome r ys .number ≡ 0 = ap (λ (o : Outcome). o .number) (w .right ∙ writing-fits b xs h) in omega arith
 
 -- ---- the rest of a lent buffer, `&mut out[n..]`: what is lent, and what the whole is when it has come back
 
