@@ -5,6 +5,8 @@ pub mod Basic
 pub mod Combine
 pub mod Alternatives
 pub mod Lists
+pub mod Sized
+pub mod Runs
 pub mod Write
 pub mod Read
 pub mod Count
