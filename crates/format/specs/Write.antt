@@ -154,10 +154,27 @@ todo-over i a b ys h =
       ← (add-assoc i (length a) (length b)),
     )
 
--- a writer of a that is lent the rest
-pub todo-part : (i : ℕ) (a b ys : List ℕ) {r : Written} {zs : List ℕ} → Writes a (midOf i (length ys - i) ys) zs r → i + length a ≤ length ys
-    → todo (i + length a) b (putMid i (length ys - i) ys zs) ≡ todo i (a ++ b) ys
-todo-part i a b ys {r} {zs} w h =
+-- a writer of a that is lent the rest: what the whole is then
+rest-wrote : (i : ℕ) (a ys : List ℕ) {r : Written} {zs : List ℕ} → Writes a (midOf i (length ys - i) ys) zs r → i + length a ≤ length ys
+    → putMid i (length ys - i) ys zs ≡ take i ys ++ over a (drop i ys)
+rest-wrote i a ys {r} {zs} w h =
     let v : Writes a (drop i ys) zs r = rw rest-lent at w in
     let room : length a ≤ length (drop i ys) = simp length-drop (omega arith) in
-    rw (rest-back i ys zs (omega arith), wrote v room .1) (todo-over i a b ys h)
+    rw (rest-back i ys zs (omega arith), wrote v room .1)
+
+pub todo-part : (i : ℕ) (a b ys : List ℕ) {r : Written} {zs : List ℕ} → Writes a (midOf i (length ys - i) ys) zs r → i + length a ≤ length ys
+    → todo (i + length a) b (putMid i (length ys - i) ys zs) ≡ todo i (a ++ b) ys
+todo-part i a b ys w h = rw (rest-wrote i a ys w h) (todo-over i a b ys h)
+
+-- two writers, the second behind the first
+pub todo-two : (i : ℕ) (a b xs : List ℕ) {r s : Written} {zs ws : List ℕ} → i + length a + length b ≤ length xs → Writes a (midOf i (length xs - i) xs) zs r
+    → Writes b (midOf (i + length a) (length (putMid i (length xs - i) xs zs) - (i + length a)) (putMid i (length xs - i) xs zs)) ws s
+    → putMid (i + length a) (length (putMid i (length xs - i) xs zs) - (i + length a)) (putMid i (length xs - i) xs zs) ws ≡ todo i (a ++ b) xs
+todo-two i a b xs {r} {s} {zs} {ws} h w v =
+    let ys = putMid i (length xs - i) xs zs in
+    let long : length ys ≡ length xs =
+    rw (rest-wrote i a xs w (omega arith)) (simp (length-append, length-drop, length-take-le i xs (omega arith)) (omega arith)) in
+    sym (todo-end (i + length a + length b) _)
+    ∙ todo-part (i + length a) b [] ys v (omega arith)
+    ∙ ap (λ (l : List ℕ). todo (i + length a) l ys) (append-nil b)
+    ∙ todo-part i a b xs w (omega arith)

@@ -1,0 +1,121 @@
+-- Frames (document 01, Store and module): section id, item length in four bytes, low first, then the item; and the frames that a store's used room holds
+-- (answer 9: none). Assumes nothing.
+use mathlib.Core.Path.{_≡_, refl, sym, ap, _∙_}
+use mathlib.Core.Bool.{Bool, true, false, cond}
+use mathlib.Core.Option.{Option, some}
+use mathlib.Core.List.{List, [], _∷_}
+use Prim.Native.Nat.{ℕ, _+_, _*_, _/_, _%_, _<_, _^_}
+use native.Mathlib.Omega.{arith}
+use lib.Dec.{eqb, leb}
+use lib.ListN.{length, take}
+use Rattle.format.specs.Format.{Format}
+use Rattle.format.specs.Basic.{number, via}
+use Rattle.format.specs.Combine.{pair, iso, guard}
+use Rattle.format.specs.Sized.{sized}
+use Rattle.format.specs.Runs.{run}
+use Rattle.frames.specs.declared.SectionId.{SectionId}
+use Rattle.frames.specs.declared.SectionId.the-variants.{Types, Imports, Tables, Elements, Data}
+
+-- ---- a number in four bytes, low first
+
+abbrev pub byte : Format ℕ
+byte = number 256
+
+abbrev pub four : Format (ℕ × (ℕ × (ℕ × ℕ)))
+four = pair byte (pair byte (pair byte byte))
+
+abbrev pub bytesOf : ℕ → ℕ × (ℕ × (ℕ × ℕ))
+bytesOf n = (n % 256, (n / 256 % 256, (n / 256 / 256 % 256, n / 256 / 256 / 256)))
+
+abbrev pub valueOf : ℕ × (ℕ × (ℕ × ℕ)) → ℕ
+valueOf p = p .0 + 256 * (p .1 .0 + 256 * (p .1 .1 .0 + 256 * p .1 .1 .1))
+
+low-byte : (a q : ℕ) → a < 256 → (a + 256 * q) % 256 ≡ a
+low-byte a q h = omega arith
+
+high-bytes : (a q : ℕ) → a < 256 → (a + 256 * q) / 256 ≡ q
+high-bytes a q h = omega arith
+
+pub bytes-of-value : (p : ℕ × (ℕ × (ℕ × ℕ))) → four .Ok p → p ≡ bytesOf (valueOf p)
+bytes-of-value p (ha, (hb, (hc, hd))) =
+    let r = p .1 .1 .0 + 256 * p .1 .1 .1 in
+    let q = p .1 .0 + 256 * r in
+    let hq : (p .0 + 256 * q) / 256 ≡ q = high-bytes (p .0) q ha in
+    let hr : q / 256 ≡ r = high-bytes (p .1 .0) r hb in
+    let e0 : p .0 ≡ valueOf p % 256 = sym (low-byte (p .0) q ha) in
+    let e1 : p .1 .0 ≡ valueOf p / 256 % 256 = sym (ap (λ (x : ℕ). x % 256) hq ∙ low-byte (p .1 .0) r hb) in
+    let e2 : p .1 .1 .0 ≡ valueOf p / 256 / 256 % 256 = sym (ap (λ (x : ℕ). x / 256 % 256) hq ∙ ap (λ (x : ℕ). x % 256) hr ∙ low-byte (p .1 .1 .0) (p .1 .1 .1) hc) in
+    let e3 : p .1 .1 .1 ≡ valueOf p / 256 / 256 / 256 = sym (ap (λ (x : ℕ). x / 256 / 256) hq ∙ ap (λ (x : ℕ). x / 256) hr ∙ high-bytes (p .1 .1 .0) (p .1 .1 .1) hc) in
+    λ i. (e0 i, (e1 i, (e2 i, e3 i)))
+
+value-small : (p : ℕ × (ℕ × (ℕ × ℕ))) → four .Ok p → valueOf p < 2 ^ 32
+value-small p h = let (a, (b, (c, d))) = h in omega arith
+
+pub word-of : (p : ℕ × (ℕ × (ℕ × ℕ))) (n : ℕ) → four .Ok p → some (valueOf p) ≡ some n → (n < 2 ^ 32) × (p ≡ bytesOf n)
+word-of p n h e = let v : valueOf p ≡ n = cc in (rw (← v) (value-small p h), bytes-of-value p h ∙ ap bytesOf v)
+
+abbrev pub word32 : Format ℕ
+word32 =
+    via four
+    (record {
+      OkA = λ n. n < 2 ^ 32;
+      to = bytesOf;
+      of = λ p. some (valueOf p);
+      fits = λ n h. (omega arith, (omega arith, (omega arith, omega arith)));
+      of-to = λ n h. ap some (omega arith);
+      to-of = word-of;
+    })
+
+-- ---- a frame
+
+-- the ids of the sections that hold items (Core Specification 3.0, 5.5.2)
+abbrev pub idOf : SectionId → ℕ
+idOf Types = 1
+idOf Imports = 2
+idOf Tables = 4
+idOf Elements = 9
+idOf Data = 11
+
+abbrev pub sections : List ℕ
+sections = 1 ∷ 2 ∷ 4 ∷ 9 ∷ 11 ∷ []
+
+abbrev pub among : List ℕ → ℕ → Bool
+among [] i = false
+among (x ∷ xs) i = cond (eqb i x) true (among xs i)
+
+pub id-among : (s : SectionId) → among sections (idOf s) ≡ true
+id-among Types = refl
+id-among Imports = refl
+id-among Tables = refl
+id-among Elements = refl
+id-among Data = refl
+
+pub id-small : (s : SectionId) → idOf s < 256
+id-small Types = omega arith
+id-small Imports = omega arith
+id-small Tables = omega arith
+id-small Elements = omega arith
+id-small Data = omega arith
+
+-- at most 65,536 bytes
+abbrev pub itemMost : ℕ
+itemMost = 65536
+
+pub record Frame : Type 0 where
+  pub id : ℕ
+  pub item : List ℕ
+
+abbrev pub frame : Format Frame
+frame =
+    iso (pair (guard byte (among sections)) (sized (guard word32 (λ n. leb n itemMost))))
+    (λ f. (f .id, f .item)) (λ p. record { id = p .0; item = p .1 }) (λ f. refl) (λ p. refl)
+
+-- the frames that the first `room` bytes of a store are, from byte 0; none where they do not end there
+abbrev pub framesIn : ℕ → List ℕ → Option (List Frame)
+framesIn room store = run frame (take room store)
+
+pub frame-long : (f : Frame) → length (frame .print f) ≡ length (f .item) + 5
+frame-long f = omega arith
+
+pub frame-some : (f : Frame) → frame .Ok f → 0 < length (frame .print f)
+frame-some f h = omega arith

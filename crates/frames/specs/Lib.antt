@@ -1,0 +1,3 @@
+-- The store: frames, and what appending one leaves.
+pub mod Frames
+pub mod Append
