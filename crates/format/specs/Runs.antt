@@ -1,5 +1,6 @@
 -- A run: one value after another, up to the end of the input. Assumes nothing.
 use mathlib.Core.Path.{_≡_, refl, sym, ap, _∙_}
+use mathlib.Core.Logic.{_↔_}
 use mathlib.Core.Option.{Option, none, some, Option·map, Option·none-ne-some}
 use mathlib.Core.List.{List, [], _∷_, _++_, append-nil}
 use Prim.Native.Nat.{ℕ, zero, suc, _+_, _≤_, _<_}
@@ -72,6 +73,14 @@ module _ {A : Type 0} (F : Format A) where
     pub run-back : (xs : List A) → All (F .Ok) xs → run (prints (F .print) xs) ≡ some xs
     unfolding run
     run-back xs h = by-back (length (prints (F .print) xs)) xs h (omega arith)
+
+    -- none exactly where no values print the numbers s
+    pub run-refuses : (s : List ℕ) → (run s ≡ none) ↔ ((xs : List A) → All (F .Ok) xs → s ≡ prints (F .print) xs → ⊥)
+    run-refuses s = (λ e xs h p. Option·none-ne-some xs (sym e ∙ ap run p ∙ run-back xs h), λ f. go f (run s) refl)
+      where
+        go : ((xs : List A) → All (F .Ok) xs → s ≡ prints (F .print) xs → ⊥) → (o : Option (List A)) → run s ≡ o → o ≡ none
+        go f none e = refl
+        go f (some xs) e = let i = run-only s xs e in absurd (f xs (i .0) (i .1))
 
     -- the number of steps does not matter, where it is enough
     by-any : (k : ℕ) (s : List ℕ) → length s ≤ k → runBy k s ≡ run s

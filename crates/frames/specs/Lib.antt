@@ -1,3 +1,5 @@
--- The store: frames, and what appending one leaves.
+-- The store: frames, what appending one leaves, and what a walk over them finds.
 pub mod Frames
 pub mod Append
+pub mod Place
+pub mod Tally

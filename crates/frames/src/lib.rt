@@ -1,8 +1,14 @@
 // The store: lent bytes that hold a frame for each accepted add, one after the other. The state is how much of it is used.
 use format::Written;
+use format::least;
 ghost use mathlib.Core.Path.{_≡_};
 ghost use Rattle.format.specs.Write.{Writes};
-ghost use Rattle.frames.specs.Frames.{idOf};
+ghost use Prim.Native.Nat.{_≤_};
+ghost use lib.ListN.{length};
+ghost use Rattle.format.specs.Runs.{run};
+ghost use Rattle.frames.specs.Frames.{idOf, sections, among, valueOf, frame};
+ghost use Rattle.frames.specs.Place.{IsAt};
+ghost use Rattle.frames.specs.Tally.{counted, tallyOf};
 ghost use Rattle.frames.specs.Append.{headBytes, outcome, appending};
 
 // The most bytes of a store, and of an item.
@@ -90,4 +96,78 @@ pub fn append(state: State, store: &mut [u8], section: SectionId, item: &[u8]) -
     put_head(section.id(), n, &mut store[at..]);
     format::copy(item, &mut store[from..]);
     Appended::To(State { used: next })
+}
+
+// A frame at a place: its section's id, and where its item ends; or that none begins there.
+enum FrameAt {
+    Is(u8, usize),
+    No,
+}
+
+fn is_section(id: u8) -> bool
+    ensures { λ r. ⌜ r ≡ among sections id ⌝ }
+{
+    if id == 1 {
+        return true;
+    }
+    if id == 2 {
+        return true;
+    }
+    if id == 4 {
+        return true;
+    }
+    if id == 9 {
+        return true;
+    }
+    id == 11
+}
+
+// Four bytes, low first.
+fn word_of(a: u8, b: u8, c: u8, d: u8) -> usize
+    ensures { λ r. ⌜ r ≡ valueOf (a, (b, (c, d))) ⌝ }
+{
+    a as usize + 256 * (b as usize + 256 * (c as usize + 256 * (d as usize)))
+}
+
+fn frame_at(bytes: &[u8], at: usize) -> FrameAt
+    requires { ⌜ at ≤ length (now bytes) ⌝ }
+    ensures { λ r. ⌜ IsAt (now (bytes .entry)) at r ⌝ }
+{
+    let left = bytes.len() - at;
+    if left < 5 {
+        return FrameAt::No;
+    }
+    let id = bytes[at];
+    let size = word_of(bytes[at + 1], bytes[at + 2], bytes[at + 3], bytes[at + 4]);
+    if is_section(id) {
+        if size <= least(ITEM_MOST, left - 5) {
+            return FrameAt::Is(id, at + 5 + size);
+        }
+    }
+    FrameAt::No
+}
+
+// What a walk finds of one section: how many items it has, and how many bytes they have; or that the bytes are no frames.
+pub enum Counted {
+    Items(usize, usize),
+    NoFrames,
+}
+
+pub fn tally(frames: &[u8], id: u8) -> Counted
+    ensures { λ r. ⌜ counted r ≡ tallyOf id (run frame (now (frames .entry))) ⌝ }
+{
+    let mut count: usize = 0;
+    let mut total: usize = 0;
+    let mut at: usize = 0;
+    while at < frames.len() {
+        let FrameAt::Is(i, end) = frame_at(frames, at) else {
+            return Counted::NoFrames;
+        };
+        if i == id {
+            count += 1;
+            total += end - at - 5;
+        }
+        at = end;
+    }
+    Counted::Items(count, total)
 }

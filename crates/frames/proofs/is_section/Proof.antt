@@ -1,0 +1,22 @@
+-- `frames::is_section` meets its contract: each id of the list is tried. Assumes nothing.
+use Rattle.frames.specs.Place.{section-last}
+use Rattle.frames.proofs.is_section.Statement.{statement}
+use Rattle.frames.proofs.is_section.Tie as tie
+
+returns : tie.Need-returns
+returns c = rw (c .if1 .taken)
+
+returns-2 : tie.Need-returns-2
+returns-2 c = rw (c .if2 .taken)
+
+returns-3 : tie.Need-returns-3
+returns-3 c = rw (c .if3 .taken)
+
+returns-4 : tie.Need-returns-4
+returns-4 c = rw (c .if4 .taken)
+
+returns-5 : tie.Need-returns-5
+returns-5 c = section-last _ (c .before .before .before .if1 .left) (c .before .before .if2 .left) (c .before .if3 .left) (c .if4 .left)
+
+pub is-section-spec : {M : Type 1} → statement M
+is-section-spec = tie.close (tie.spec returns returns-2 returns-3 returns-4 returns-5)
