@@ -127,6 +127,9 @@ todo-start b xs = rw zero-add
 pub todo-end : (i : ℕ) (ys : List ℕ) → todo i [] ys ≡ ys
 todo-end i ys = rw (add-zero, take-append-drop)
 
+pub length-todo : (i : ℕ) (b ys : List ℕ) → i + length b ≤ length ys → length (todo i b ys) ≡ length ys
+length-todo i b ys h = simp (length-append, length-drop, length-take-le i ys (omega arith)) (omega arith)
+
 -- a byte, by a store
 pub todo-byte : (i b : ℕ) (bs ys : List ℕ) → i < length ys → todo (i + 1) bs (set ys i b) ≡ todo i (b ∷ bs) ys
 todo-byte i b bs ys h =

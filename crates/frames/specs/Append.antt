@@ -59,20 +59,21 @@ one-appended used r s ys zs p q =
       sym (store-of used r ys) ∙ ap (λ (o : Outcome). o .store) e ∙ store-of used s zs,
     )
 
+-- a refusal changes nothing
+abbrev pub refused : ℕ → List ℕ → ℕ → Outcome
+refused used xs n = record { number = n; used = used; store = xs }
+
 abbrev pub storeMost : ℕ
 storeMost = 16777216
 
 module _ (used : ℕ) (xs : List ℕ) (s : SectionId) (item : List ℕ) where
-  abbrev refused : ℕ → Outcome
-  refused n = record { number = n; used = used; store = xs }
-
   -- else section id, item length and item stand from the room used on, it grows by the item's length plus 5, and no other byte changes
   unfoldable pub appending : Outcome
   appending =
-      cond (ltb storeMost (length xs)) (refused 1)
-      (cond (ltb (length xs) used) (refused 1)
-      (cond (ltb itemMost (length item)) (refused 6)
-      (cond (ltb (length xs) (used + length item + 5)) (refused 7)
+      cond (ltb storeMost (length xs)) (refused used xs 1)
+      (cond (ltb (length xs) used) (refused used xs 1)
+      (cond (ltb itemMost (length item)) (refused used xs 6)
+      (cond (ltb (length xs) (used + length item + 5)) (refused used xs 7)
       (record { number = 0; used = used + length item + 5; store = todo used (headBytes (idOf s) (length item) ++ item) xs }))))
 
   -- ---- the cases, in the order in which they are judged
@@ -187,13 +188,15 @@ frames-appended used xs f fs e ok h =
 abbrev pub framed : SectionId → List ℕ → Frame
 framed s item = record { id = idOf s; item = item }
 
+pub framed-ok : (s : SectionId) (item : List ℕ) → length item ≤ itemMost → frame .Ok (framed s item)
+framed-ok s item l = ((id-small s, id-among s), (omega arith, le-leb (length item) itemMost l))
+
 -- an accepted add appends its frame to those that the store holds
 pub adding-appends : (used : ℕ) (xs : List ℕ) (s : SectionId) (item : List ℕ) (fs : List Frame) → framesIn used xs ≡ some fs → appending used xs s item .number ≡ 0
     → framesIn (appending used xs s item .used) (appending used xs s item .store) ≡ some (fs ++ (framed s item ∷ []))
 adding-appends used xs s item fs e a =
     let (h, l, m) = zero-exactly used xs s item .0 a in
     let f = framed s item in
-    let ok : frame .Ok f = ((id-small s, id-among s), (omega arith, le-leb (length item) itemMost l)) in
     let b : frame .print f ≡ headBytes (idOf s) (length item) ++ item = frame-bytes f (omega arith) in
     let q = fits used xs s item (h .0) (h .1) l m {t = record { used = used + length item + 5 }} refl (ap (λ (p : List ℕ). todo used p xs) b) in
-    sym (ap (λ (o : Outcome). framesIn (o .used) (o .store)) q) ∙ frames-appended used xs f fs e ok m
+    sym (ap (λ (o : Outcome). framesIn (o .used) (o .store)) q) ∙ frames-appended used xs f fs e (framed-ok s item l) m
