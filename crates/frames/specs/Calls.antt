@@ -1,6 +1,7 @@
 -- Demand 3 up to finishing, for any calls: the order in which those of different sections are made does not matter. A call has a section, a reason to refuse
 -- it that does not depend on the store (2 to 6 of document 01, 0 where there is none), and an item. Assumes nothing.
 use mathlib.Core.Path.{_≡_, refl, sym, ap, _∙_, subst}
+use mathlib.Core.Logic.{_⊎_, inl, inr, ⊎-elim}
 use mathlib.Core.Bool.{Bool, true, false, cond}
 use mathlib.Core.Option.{some}
 use mathlib.Core.List.{List, [], _∷_, _++_, map, append-nil, append-assoc}
@@ -8,7 +9,7 @@ use Prim.Native.Nat.{ℕ, _+_, _≤_}
 use native.Mathlib.Omega.{arith}
 use lib.Dec.{eqb, ltb}
 use lib.ListN.{length}
-use borrow.Author.Tests.{le-ltb, eq-eqb, eqb-true, eqb-false}
+use borrow.Author.Tests.{le-ltb, eq-eqb, eqb-true, eqb-false, ne-eqb}
 use Rattle.format.specs.Lists.{All}
 use Rattle.format.specs.Runs.{run-none}
 use Rattle.format.specs.Write.{todo, length-todo}
@@ -28,6 +29,18 @@ module _ (Call : Type 0) (sec : Call → SectionId) (why : Call → ℕ) (item :
       cond (ltb storeMost (length xs)) (refused used xs 1)
       (cond (ltb (length xs) used) (refused used xs 1)
       (cond (eqb (why c) 0) (appending used xs (sec c) (item c)) (refused used xs (why c))))
+
+  -- a call without a reason of its own is answered as appending its frame is
+  pub adding-plain : (used : ℕ) (xs : List ℕ) (c : Call) → why c ≡ 0 → adding used xs c ≡ appending used xs (sec c) (item c)
+  unfolding adding appending
+  adding-plain used xs c e = rw (eq-eqb (why c) 0 e) (go (ltb storeMost (length xs)) (ltb (length xs) used) _)
+    where
+      go : (t u : Bool) (o : Outcome)
+          → cond t (refused used xs 1) (cond u (refused used xs 1) (cond t (refused used xs 1) (cond u (refused used xs 1) o)))
+          ≡ cond t (refused used xs 1) (cond u (refused used xs 1) o)
+      go true u o = refl
+      go false true o = refl
+      go false false o = refl
 
   -- what a sequence of adds leaves
   abbrev pub adds : ℕ → List ℕ → List Call → Outcome
@@ -207,6 +220,36 @@ module _ (Call : Type 0) (sec : Call → SectionId) (why : Call → ℕ) (item :
       go true e = ap (λ (l : List (List ℕ)). item c ∷ l) e
       go false e = e
 
+  -- no other number is an id
+  by-id : (i : ℕ) → ((s : SectionId) × (i ≡ idOf s)) ⊎ ((s : SectionId) → idOf s ≡ i → ⊥)
+  by-id i = go (eqb i 1) refl (eqb i 2) refl (eqb i 4) refl (eqb i 9) refl (eqb i 11) refl
+    where
+      go : (a : Bool) → eqb i 1 ≡ a → (b : Bool) → eqb i 2 ≡ b → (c : Bool) → eqb i 4 ≡ c → (d : Bool) → eqb i 9 ≡ d → (e : Bool) → eqb i 11 ≡ e
+          → ((s : SectionId) × (i ≡ idOf s)) ⊎ ((s : SectionId) → idOf s ≡ i → ⊥)
+      go true p b q c r d s e t = inl (Types, eqb-true i 1 p)
+      go false p true q c r d s e t = inl (Imports, eqb-true i 2 q)
+      go false p false q true r d s e t = inl (Tables, eqb-true i 4 r)
+      go false p false q false r true s e t = inl (Elements, eqb-true i 9 s)
+      go false p false q false r false s true t = inl (Data, eqb-true i 11 t)
+      go false p false q false r false s false t = inr other
+        where
+          other : (s : SectionId) → idOf s ≡ i → ⊥
+          other Types z = eqb-false i 1 p (sym z)
+          other Imports z = eqb-false i 2 q (sym z)
+          other Tables z = eqb-false i 4 r (sym z)
+          other Elements z = eqb-false i 9 s (sym z)
+          other Data z = eqb-false i 11 t (sym z)
+
+  items-none : (i : ℕ) (cs : List Call) → ((s : SectionId) → idOf s ≡ i → ⊥) → itemsOf i (map frameOf cs) ≡ []
+  items-none i [] h = refl
+  items-none i (c ∷ cs) h = rw (ne-eqb (idOf (sec c)) i (h (sec c))) (items-none i cs h)
+
+  same-items : (cs ds : List Call) → SameCalls cs ds → (i : ℕ) → itemsOf i (map frameOf cs) ≡ itemsOf i (map frameOf ds)
+  same-items cs ds h i = ⊎-elim held (λ n. items-none i cs n ∙ sym (items-none i ds n)) (by-id i)
+    where
+      held : (s : SectionId) × (i ≡ idOf s) → itemsOf i (map frameOf cs) ≡ itemsOf i (map frameOf ds)
+      held (s, e) = rw e (items-are s cs ∙ ap (map item) (h s) ∙ sym (items-are s ds))
+
   -- ---- any order
 
   -- if all calls of one sequence are accepted, so are all of the other
@@ -223,7 +266,7 @@ module _ (Call : Type 0) (sec : Call → SectionId) (why : Call → ℕ) (item :
     pub long : length (o .store) ≡ length (p .store)
     pub first : framesIn (o .used) (o .store) ≡ some (map frameOf cs)
     pub second : framesIn (p .used) (p .store) ≡ some (map frameOf ds)
-    pub items : (s : SectionId) → itemsOf (idOf s) (map frameOf cs) ≡ itemsOf (idOf s) (map frameOf ds)
+    pub items : (i : ℕ) → itemsOf i (map frameOf cs) ≡ itemsOf i (map frameOf ds)
 
   pub any-order-frames : (xs ys : List ℕ) (cs ds : List Call) → length xs ≡ length ys → SameCalls cs ds → Accepted 0 xs cs
       → Alike (adds 0 xs cs) (adds 0 ys ds) cs ds
@@ -235,5 +278,5 @@ module _ (Call : Type 0) (sec : Call → SectionId) (why : Call → ℕ) (item :
         long = p .kept ∙ e ∙ sym (q .kept);
         first = p .holds;
         second = q .holds;
-        items = λ s. items-are s cs ∙ ap (map item) (h s) ∙ sym (items-are s ds);
+        items = same-items cs ds h;
       }

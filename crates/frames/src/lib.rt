@@ -104,7 +104,8 @@ enum FrameAt {
     No,
 }
 
-fn is_section(id: u8) -> bool
+// Whether an id is that of a section that holds items.
+pub fn is_section(id: u8) -> bool
     ensures { λ r. ⌜ r ≡ among sections id ⌝ }
 {
     if id == 1 {

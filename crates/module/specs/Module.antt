@@ -1,0 +1,45 @@
+-- The module that frames, an order list and a data count make (Core Specification 3.0, 5.5.2, 5.5.18 and 5.5.19; document 01, Store and module). Assumes nothing.
+use mathlib.Core.Path.{_≡_, refl, ap}
+use mathlib.Core.Bool.{cond}
+use mathlib.Core.List.{List, [], _∷_, _++_}
+use Prim.Native.Nat.{ℕ}
+use lib.Dec.{eqb}
+use lib.ListN.{length}
+use Rattle.format.specs.Lists.{prints}
+use Rattle.leb128.specs.Leb.{uleb}
+use Rattle.frames.specs.Frames.{Frame}
+use Rattle.frames.specs.Tally.{itemsOf, joined}
+
+-- 5.5.18: magic, version
+abbrev pub header : List ℕ
+header = 0x00 ∷ 0x61 ∷ 0x73 ∷ 0x6D ∷ 0x01 ∷ 0x00 ∷ 0x00 ∷ 0x00 ∷ []
+
+-- 5.5.2: id, size of the contents in bytes, contents
+abbrev pub section : ℕ → List ℕ → List ℕ
+section i contents = i ∷ (uleb (length contents) ++ contents)
+
+-- 5.1.3: count, and the members
+abbrev pub vector : List (List ℕ) → List ℕ
+vector items = uleb (length items) ++ joined items
+
+abbrev pub dataCount : ℕ
+dataCount = 12
+
+-- a section's items in order of adding; the data count section has the count alone
+abbrev pub contentsOf : ℕ → List Frame → ℕ → List ℕ
+contentsOf count fs i = cond (eqb i dataCount) (uleb count) (vector (itemsOf i fs))
+
+abbrev pub sectionOf : ℕ → List Frame → ℕ → List ℕ
+sectionOf count fs i = section i (contentsOf count fs i)
+
+unfoldable pub moduleOf : List ℕ → ℕ → List Frame → List ℕ
+moduleOf order count fs = header ++ prints (sectionOf count fs) order
+
+-- it depends on the frames by each section's items alone
+pub module-same : (order : List ℕ) (count : ℕ) (fs gs : List Frame) → ((i : ℕ) → itemsOf i fs ≡ itemsOf i gs) → moduleOf order count fs ≡ moduleOf order count gs
+unfolding moduleOf
+module-same order count fs gs h = ap (λ (l : List ℕ). header ++ l) (go order)
+  where
+    go : (o : List ℕ) → prints (sectionOf count fs) o ≡ prints (sectionOf count gs) o
+    go [] = refl
+    go (i ∷ o) = rw (h i, go o)
