@@ -1,1 +1,2 @@
+-- The checked examples that are proved.
 pub mod Examples

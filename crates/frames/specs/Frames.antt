@@ -68,7 +68,7 @@ word32 =
 
 -- ---- a frame
 
--- the ids of the sections that hold items (Core Specification 3.0, 5.5.2)
+-- the ids of the sections that hold items (Core Specification 3.0, Binary Format, Modules, Sections)
 abbrev pub idOf : SectionId → ℕ
 idOf Types = 1
 idOf Imports = 2

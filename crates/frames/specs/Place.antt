@@ -1,18 +1,10 @@
 -- A frame at a place of a slice: when one begins there, of which section, and where it ends. Assumes nothing.
-use mathlib.Core.Path.{_≡_, refl, ap, _∙_}
-use mathlib.Core.Bool.{Bool, true, false, cond}
-use mathlib.Core.List.{List, _∷_}
-use Prim.Native.Nat.{ℕ, _+_, _-_, _≤_, _<_, min}
-use native.Mathlib.Omega.{arith}
-use lib.Dec.{eqb, leb}
-use lib.ListN.{length, take, drop, getD, length-append, length-drop}
-use borrow.Author.Tests.{lt-ltb, le-leb, lt-leb, ne-eqb}
-use lib.Seq.{drop-drop, length-take-le}
-use mathlib.Core.Logic.{⊎-elim}
-use Rattle.format.specs.Write.{fits-or}
-use Rattle.format.specs.Parsed.{Parsed, fail, got}
-use Rattle.format.specs.Read.{drop-more}
-use Rattle.frames.specs.Frames.{Frame, frame, frame-long, sections, among, valueOf, itemMost}
+use mathlib.Core.Path.{_≡_}
+use mathlib.Core.List.{List}
+use Prim.Native.Nat.{ℕ, _+_, _≤_}
+use lib.ListN.{length, drop}
+use Rattle.format.specs.Parsed.{fail, got}
+use Rattle.frames.specs.Frames.{Frame, frame}
 use Rattle.frames.specs.declared.FrameAt.{FrameAt}
 use Rattle.frames.specs.declared.FrameAt.the-variants.{Is, No}
 
@@ -20,91 +12,3 @@ use Rattle.frames.specs.declared.FrameAt.the-variants.{Is, No}
 abbrev pub IsAt : List ℕ → ℕ → FrameAt → Type 0
 IsAt s at (Is i end) = (f : Frame) × (f .id ≡ i) × (frame .parse (drop at s) ≡ got f (drop end s)) × (at + 5 + length (f .item) ≡ end) × (end ≤ length s)
 IsAt s at No = frame .parse (drop at s) ≡ fail
-
--- five bytes, and what is left
-abbrev pub judge : ℕ → ℕ → List ℕ → Parsed Frame
-judge i n r = cond (among sections i) (cond (leb n itemMost) (cond (leb n (length r)) (got (record { id = i; item = take n r }) (drop n r)) fail) fail) fail
-
-pub frame-head : (i a b c d : ℕ) (r : List ℕ) → i < 256 → a < 256 → b < 256 → c < 256 → d < 256
-    → frame .parse (i ∷ a ∷ b ∷ c ∷ d ∷ r) ≡ judge i (valueOf (a, (b, (c, d)))) r
-frame-head i a b c d r hi ha hb hc hd = go (among sections i) refl (leb n itemMost) refl (leb n (length r)) refl
-  where
-    n : ℕ
-    n = valueOf (a, (b, (c, d)))
-
-    go : (t : Bool) → among sections i ≡ t → (u : Bool) → leb n itemMost ≡ u → (v : Bool) → leb n (length r) ≡ v → frame .parse (i ∷ a ∷ b ∷ c ∷ d ∷ r) ≡ judge i n r
-    go true e true f true g = rw (lt-ltb i 256 hi, e, lt-ltb a 256 ha, lt-ltb b 256 hb, lt-ltb c 256 hc, lt-ltb d 256 hd, f, g)
-    go true e true f false g = rw (lt-ltb i 256 hi, e, lt-ltb a 256 ha, lt-ltb b 256 hb, lt-ltb c 256 hc, lt-ltb d 256 hd, f, g)
-    go true e false f v g = rw (lt-ltb i 256 hi, e, lt-ltb a 256 ha, lt-ltb b 256 hb, lt-ltb c 256 hc, lt-ltb d 256 hd, f)
-    go false e u f v g = rw (lt-ltb i 256 hi, e)
-
-pub frame-cut : (s : List ℕ) → length s < 5 → frame .parse s ≡ fail
-frame-cut s h = go (frame .parse s) refl
-  where
-    go : (m : Parsed Frame) → frame .parse s ≡ m → m ≡ fail
-    go fail e = refl
-    go (got f t) e =
-        let l : length s ≡ length (frame .print f) + length t = ap length (frame .only s f t e .1) ∙ length-append (frame .print f) t in
-        absurd (omega (arith, frame-long f))
-
-pub section-last : (i : ℕ) → (i ≡ 1 → ⊥) → (i ≡ 2 → ⊥) → (i ≡ 4 → ⊥) → (i ≡ 9 → ⊥) → eqb i 11 ≡ among sections i
-section-last i a b c d = rw (ne-eqb i 1 a, ne-eqb i 2 b, ne-eqb i 4 c, ne-eqb i 9 d) (last (eqb i 11))
-  where
-    last : (t : Bool) → t ≡ cond t true false
-    last true = refl
-    last false = refl
-
-module _ (s : List ℕ) (at : ℕ) (h : at + 5 ≤ length s) (bytes : (k : ℕ) → getD s k 0 < 256) where
-  -- the id and the length that stand there
-  abbrev idAt : ℕ
-  idAt = getD s at 0
-
-  abbrev sizeAt : ℕ
-  sizeAt = valueOf (getD s (at + 1) 0, (getD s (at + 2) 0, (getD s (at + 3) 0, getD s (at + 4) 0)))
-
-  five : drop at s ≡ idAt ∷ getD s (at + 1) 0 ∷ getD s (at + 2) 0 ∷ getD s (at + 3) 0 ∷ getD s (at + 4) 0 ∷ drop (at + 5) s
-  five =
-      let e : at + 1 + 1 ≡ at + 2 = omega arith in
-      let f : at + 2 + 1 ≡ at + 3 = omega arith in
-      let g : at + 3 + 1 ≡ at + 4 = omega arith in
-      let k : at + 4 + 1 ≡ at + 5 = omega arith in
-      rw (
-        drop-more s at (omega arith),
-        drop-more s (at + 1) (omega arith),
-        e,
-        drop-more s (at + 2) (omega arith),
-        f,
-        drop-more s (at + 3) (omega arith),
-        g,
-        drop-more s (at + 4) (omega arith),
-        k,
-      )
-
-  parsed : frame .parse (drop at s) ≡ judge idAt sizeAt (drop (at + 5) s)
-  parsed =
-      ap (frame .parse) five
-      ∙ frame-head idAt (getD s (at + 1) 0) (getD s (at + 2) 0) (getD s (at + 3) 0) (getD s (at + 4) 0) (drop (at + 5) s)
-      (bytes at) (bytes (at + 1)) (bytes (at + 2)) (bytes (at + 3)) (bytes (at + 4))
-
-  left : length (drop (at + 5) s) ≡ length s - at - 5
-  left = length-drop (at + 5) s ∙ omega arith
-
-  pub is-at : {n : ℕ} → n ≡ sizeAt → among sections idAt ≡ true → n ≤ min itemMost (length s - at - 5) → IsAt s at (Is idAt (at + 5 + n))
-  is-at {n} q e k =
-      let r = drop (at + 5) s in
-      let room : n ≤ length r = omega (arith, left) in (
-        record { id = idAt; item = take n r },
-        refl,
-        parsed ∙ rw (← q, e, le-leb n itemMost (omega arith), le-leb n (length r) room, drop-drop),
-        ap (λ (m : ℕ). at + 5 + m) (length-take-le n r room),
-        omega (arith, left),
-      )
-
-  pub no-section : among sections idAt ≡ false → IsAt s at No
-  no-section e = parsed ∙ rw e
-
-  pub no-size : among sections idAt ≡ true → min itemMost (length s - at - 5) < sizeAt → IsAt s at No
-  no-size e k = parsed ∙ rw e (⊎-elim
-      (λ l. rw (le-leb sizeAt itemMost l, lt-leb sizeAt (length (drop (at + 5) s)) (omega (arith, left))))
-      (λ l. rw (lt-leb sizeAt itemMost l))
-      (fits-or sizeAt itemMost))

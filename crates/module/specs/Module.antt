@@ -1,4 +1,5 @@
--- The module that frames, an order list and a data count make (Core Specification 3.0, 5.5.2, 5.5.18 and 5.5.19; document 01, Store and module). Assumes nothing.
+-- The module that frames, an order list and a data count make (WebAssembly Core Specification 3.0, Binary Format, Modules;
+-- document 01, Store and module). Assumes nothing.
 use mathlib.Core.Path.{_≡_, refl, ap}
 use mathlib.Core.Bool.{cond}
 use mathlib.Core.List.{List, [], _∷_, _++_}
@@ -10,15 +11,15 @@ use Rattle.leb128.specs.Leb.{uleb}
 use Rattle.frames.specs.Frames.{Frame}
 use Rattle.frames.specs.Tally.{itemsOf, joined}
 
--- 5.5.18: magic, version
+-- Modules: magic, version
 abbrev pub header : List ℕ
 header = 0x00 ∷ 0x61 ∷ 0x73 ∷ 0x6D ∷ 0x01 ∷ 0x00 ∷ 0x00 ∷ 0x00 ∷ []
 
--- 5.5.2: id, size of the contents in bytes, contents
+-- Sections: id, size of the contents in bytes, contents
 abbrev pub section : ℕ → List ℕ → List ℕ
 section i contents = i ∷ (uleb (length contents) ++ contents)
 
--- 5.1.3: count, and the members
+-- Conventions, of several members: how many, as a u32, and then they
 abbrev pub vector : List (List ℕ) → List ℕ
 vector items = uleb (length items) ++ joined items
 

@@ -4,7 +4,7 @@ use native.Mathlib.Omega.{arith}
 use Prim.Native.Nat.{ℕ, _+_, _≤_, _<_}
 use lib.ListN.{length, getD, drop, length-drop}
 use mathlib.Core.Path.{sym, _∙_}
-use Rattle.frames.specs.Place.{frame-cut, is-at, no-section, no-size}
+use Rattle.frames.proofs.Placing.{frame-cut, is-at, no-section, no-size}
 use borrow.Author.Needs.{needs}
 use Rattle.frames.proofs.frame_at.Statement.{statement}
 use Rattle.frames.proofs.frame_at.Tie as tie

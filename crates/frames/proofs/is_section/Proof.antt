@@ -1,5 +1,5 @@
 -- `frames::is_section` meets its contract: each id of the list is tried. Assumes nothing.
-use Rattle.frames.specs.Place.{section-last}
+use Rattle.frames.proofs.Placing.{section-last}
 use Rattle.frames.proofs.is_section.Statement.{statement}
 use Rattle.frames.proofs.is_section.Tie as tie
 

@@ -5,7 +5,7 @@ use Prim.Native.Nat.{_+_, _-_, _≤_, _<_, _^_}
 use lib.ListN.{length}
 use mathlib.Core.Path.{subst}
 use Rattle.frames.specs.Place.{IsAt}
-use Rattle.frames.specs.Tally.{Walked, walk-none, walk-item, walk-other, walk-stop, walk-done}
+use Rattle.frames.proofs.Walking.{Walked, walk-none, walk-item, walk-other, walk-stop, walk-done}
 use borrow.Author.Needs.{needs}
 use Rattle.frames.specs.declared.FrameAt.the-variants.{Is}
 use Rattle.frames.proofs.tally.Statement.{statement}

@@ -4,7 +4,7 @@ use native.Mathlib.Omega.{arith}
 use Prim.Native.Nat.{_-_}
 use lib.ListN.{length}
 use borrow.Author.Needs.{needs}
-use Rattle.module.specs.Finish.{Looked, looked-none, looked-more, looked-stop, looked-all}
+use Rattle.module.proofs.Order.{Looked, looked-none, looked-more, looked-stop, looked-all}
 use Rattle.module.proofs.is_order.Statement.{statement}
 use Rattle.module.proofs.is_order.Tie as tie
 

@@ -1,6 +1,6 @@
 -- `module::is_order_id` meets its contract. Assumes nothing.
 use mathlib.Core.Path.{_∙_}
-use Rattle.module.specs.Finish.{order-section}
+use Rattle.module.proofs.Order.{order-section}
 use borrow.Author.Needs.{needs}
 use Rattle.module.proofs.is_order_id.Statement.{statement}
 use Rattle.module.proofs.is_order_id.Tie as tie

@@ -1,0 +1,2 @@
+-- What the proofs of `module` share.
+pub mod Order
