@@ -1,20 +1,20 @@
 -- When the bytes at a place begin a frame: five of them say so, and what is left. Assumes nothing.
-use mathlib.Core.Path.{_≡_, refl, ap, _∙_}
+use mathlib.Core.Path.{_≡_, refl, sym, ap, _∙_}
 use mathlib.Core.Bool.{Bool, true, false, cond}
-use mathlib.Core.List.{List, _∷_}
+use mathlib.Core.List.{List, _∷_, _++_}
 use Prim.Native.Nat.{ℕ, _+_, _-_, _≤_, _<_, min}
 use native.Mathlib.Omega.{arith}
 use lib.Dec.{eqb, leb}
 use lib.ListN.{length, take, drop, getD, length-append, length-drop}
 use borrow.Author.Tests.{lt-ltb, le-leb, lt-leb, ne-eqb}
-use lib.Seq.{drop-drop, length-take-le}
+use lib.Seq.{drop-drop, take-at, drop-at}
 use mathlib.Core.Logic.{⊎-elim}
 use Rattle.format.specs.Write.{fits-or}
 use Rattle.format.specs.Parsed.{Parsed, fail, got}
 use Rattle.format.specs.Read.{drop-more}
 use Rattle.frames.specs.Frames.{Frame, frame, frame-long, sections, among, valueOf, itemMost}
 use Rattle.frames.specs.declared.FrameAt.the-variants.{Is, No}
-use Rattle.frames.specs.Place.{IsAt}
+use Rattle.frames.specs.Place.{placed, frameAt}
 
 -- five bytes, and what is left
 abbrev pub judge : ℕ → ℕ → List ℕ → Parsed Frame
@@ -48,6 +48,13 @@ section-last i a b c d = rw (ne-eqb i 1 a, ne-eqb i 2 b, ne-eqb i 4 c, ne-eqb i 
     last : (t : Bool) → t ≡ cond t true false
     last true = refl
     last false = refl
+
+no-parse : (s : List ℕ) (at : ℕ) → frame .parse (drop at s) ≡ fail → No ≡ frameAt s at
+unfolding frameAt
+no-parse s at e = sym (ap (placed (length s)) e)
+
+pub no-head : (s : List ℕ) (at : ℕ) → length s < at + 5 → No ≡ frameAt s at
+no-head s at h = no-parse s at (frame-cut (drop at s) (omega (arith, length-drop at s)))
 
 module _ (s : List ℕ) (at : ℕ) (h : at + 5 ≤ length s) (bytes : (k : ℕ) → getD s k 0 < 256) where
   -- the id and the length that stand there
@@ -84,22 +91,69 @@ module _ (s : List ℕ) (at : ℕ) (h : at + 5 ≤ length s) (bytes : (k : ℕ) 
   left : length (drop (at + 5) s) ≡ length s - at - 5
   left = length-drop (at + 5) s ∙ omega arith
 
-  pub is-at : {n : ℕ} → n ≡ sizeAt → among sections idAt ≡ true → n ≤ min itemMost (length s - at - 5) → IsAt s at (Is idAt (at + 5 + n))
+  pub is-at : {n : ℕ} → n ≡ sizeAt → among sections idAt ≡ true → n ≤ min itemMost (length s - at - 5) → Is idAt (at + 5 + n) ≡ frameAt s at
+  unfolding frameAt
   is-at {n} q e k =
       let r = drop (at + 5) s in
-      let room : n ≤ length r = omega (arith, left) in (
-        record { id = idAt; item = take n r },
-        refl,
-        parsed ∙ rw (← q, e, le-leb n itemMost (omega arith), le-leb n (length r) room, drop-drop),
-        ap (λ (m : ℕ). at + 5 + m) (length-take-le n r room),
-        omega (arith, left),
-      )
+      let room : n ≤ length r = omega (arith, left) in
+      let m : length s - length (drop n r) ≡ at + 5 + n = omega (arith, left, length-drop n r) in
+      let p : frame .parse (drop at s) ≡ got (record { id = idAt; item = take n r }) (drop n r) =
+      parsed ∙ rw (← q, e, le-leb n itemMost (omega arith), le-leb n (length r) room) in
+      sym (ap (placed (length s)) p ∙ ap (Is idAt) m)
 
-  pub no-section : among sections idAt ≡ false → IsAt s at No
-  no-section e = parsed ∙ rw e
+  pub no-section : among sections idAt ≡ false → No ≡ frameAt s at
+  no-section e = no-parse s at (parsed ∙ rw e)
 
-  pub no-size : among sections idAt ≡ true → min itemMost (length s - at - 5) < sizeAt → IsAt s at No
-  no-size e k = parsed ∙ rw e (⊎-elim
+  pub no-size : among sections idAt ≡ true → min itemMost (length s - at - 5) < sizeAt → No ≡ frameAt s at
+  no-size e k = no-parse s at (parsed ∙ rw e (⊎-elim
       (λ l. rw (le-leb sizeAt itemMost l, lt-leb sizeAt (length (drop (at + 5) s)) (omega (arith, left))))
       (λ l. rw (lt-leb sizeAt itemMost l))
-      (fits-or sizeAt itemMost))
+      (fits-or sizeAt itemMost)))
+
+-- ---- what is found at a place
+
+-- the frame that begins there
+pub record Begins (s : List ℕ) (at i end : ℕ) : Type 0 where
+  pub here : Frame
+  pub is : here .id ≡ i
+  pub ok : frame .Ok here
+  pub parse : frame .parse (drop at s) ≡ got here (drop end s)
+  pub long : at + 5 + length (here .item) ≡ end
+  pub within : end ≤ length s
+  pub item : here .item ≡ take (end - (at + 5)) (drop (at + 5) s)
+
+frame-rest : (f : Frame) (r : List ℕ) → drop 5 (frame .print f ++ r) ≡ f .item ++ r
+frame-rest f r = refl
+
+pub frame-found : (s : List ℕ) (at i end : ℕ) → Is i end ≡ frameAt s at → Begins s at i end
+unfolding frameAt
+frame-found s at i end e = go (frame .parse (drop at s)) refl e
+  where
+    go : (m : Parsed Frame) → frame .parse (drop at s) ≡ m → Is i end ≡ placed (length s) m → Begins s at i end
+    go fail p q = let z : _≡_ {A = ℕ} 0 1 = cc in absurd (omega arith)
+    go (got f r) p q =
+        let o = frame .only (drop at s) f r p in
+        let j : i ≡ f .id = cc in
+        let k : end ≡ length s - length r = cc in
+        let l : length s - at ≡ length (f .item) + 5 + length r = sym (length-drop at s) ∙ ap length (o .1) ∙ length-append (frame .print f) r ∙ ap (λ (n : ℕ). n + length r) (frame-long f) in
+        let b : drop (at + 5) s ≡ f .item ++ r = sym (drop-drop 5 at s) ∙ ap (drop 5) (o .1) ∙ frame-rest f r in
+        let n : end - (at + 5) ≡ length (f .item) = omega arith in
+        let e5 : at + 5 + length (f .item) ≡ end = omega arith in
+        let c : drop end s ≡ r = rw (← e5) (sym (drop-drop (length (f .item)) (at + 5) s)) ∙ ap (drop (length (f .item))) b ∙ drop-at (f .item) r (length (f .item)) refl in
+        record {
+          here = f;
+          is = sym j;
+          ok = o .0;
+          parse = p ∙ ap (got f) (sym c);
+          long = omega arith;
+          within = omega arith;
+          item = sym (ap (take (end - (at + 5))) b ∙ take-at (f .item) r (end - (at + 5)) (sym n));
+        }
+
+pub none-found : (s : List ℕ) (at : ℕ) → No ≡ frameAt s at → frame .parse (drop at s) ≡ fail
+unfolding frameAt
+none-found s at e = go (frame .parse (drop at s)) e
+  where
+    go : (m : Parsed Frame) → No ≡ placed (length s) m → m ≡ fail
+    go fail q = refl
+    go (got f r) q = let z : _≡_ {A = ℕ} 0 1 = cc in absurd (omega arith)

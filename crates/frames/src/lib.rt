@@ -3,12 +3,10 @@ use format::Written;
 use format::least;
 ghost use mathlib.Core.Path.{_≡_};
 ghost use Rattle.format.specs.Write.{Writes};
-ghost use Prim.Native.Nat.{_≤_};
-ghost use lib.ListN.{length};
 ghost use Rattle.format.specs.Runs.{run};
 ghost use Rattle.frames.specs.Frames.{idOf, sections, among, valueOf, frame};
-ghost use Rattle.frames.specs.Place.{IsAt};
-ghost use Rattle.frames.specs.Tally.{counted, tallyOf};
+ghost use Rattle.frames.specs.Place.{frameAt};
+ghost use Rattle.frames.specs.Tally.{tallyOf};
 ghost use Rattle.frames.specs.Append.{headBytes, outcome, appending};
 
 // The most bytes of a store, and of an item.
@@ -98,12 +96,6 @@ pub fn append(state: State, store: &mut [u8], section: SectionId, item: &[u8]) -
     Appended::To(State { used: next })
 }
 
-// A frame at a place: its section's id, and where its item ends; or that none begins there.
-enum FrameAt {
-    Is(u8, usize),
-    No,
-}
-
 // Whether an id is that of a section that holds items.
 pub fn is_section(id: u8) -> bool
     ensures { λ r. ⌜ r ≡ among sections id ⌝ }
@@ -130,10 +122,18 @@ fn word_of(a: u8, b: u8, c: u8, d: u8) -> usize
     a as usize + 256 * (b as usize + 256 * (c as usize + 256 * (d as usize)))
 }
 
-fn frame_at(bytes: &[u8], at: usize) -> FrameAt
-    requires { ⌜ at ≤ length (now bytes) ⌝ }
-    ensures { λ r. ⌜ IsAt (now (bytes .entry)) at r ⌝ }
+// A frame at a place: its section's id, and where its item ends; or that none begins there.
+pub enum FrameAt {
+    Is(u8, usize),
+    No,
+}
+
+pub fn frame_at(bytes: &[u8], at: usize) -> FrameAt
+    ensures { λ r. ⌜ r ≡ frameAt (now (bytes .entry)) at ⌝ }
 {
+    if bytes.len() < at {
+        return FrameAt::No;
+    }
     let left = bytes.len() - at;
     if left < 5 {
         return FrameAt::No;
@@ -148,27 +148,35 @@ fn frame_at(bytes: &[u8], at: usize) -> FrameAt
     FrameAt::No
 }
 
-// What a walk finds of one section: how many items it has, and how many bytes they have; or that the bytes are no frames.
-pub enum Counted {
-    Items(usize, usize),
-    NoFrames,
+// What a walk finds: whether the bytes are frames, and then how many items each section has, by its id, and how many bytes they have.
+pub struct Tallies {
+    pub are: bool,
+    pub counts: [usize; 16],
+    pub totals: [usize; 16],
 }
 
-pub fn tally(frames: &[u8], id: u8) -> Counted
-    ensures { λ r. ⌜ counted r ≡ tallyOf id (run frame (now (frames .entry))) ⌝ }
+pub fn tally(frames: &[u8]) -> Tallies
+    ensures { λ r. ⌜ r ≡ tallyOf (run frame (now (frames .entry))) ⌝ }
 {
-    let mut count: usize = 0;
-    let mut total: usize = 0;
+    let mut counts = [0usize; 16];
+    let mut totals = [0usize; 16];
     let mut at: usize = 0;
     while at < frames.len() {
-        let FrameAt::Is(i, end) = frame_at(frames, at) else {
-            return Counted::NoFrames;
+        let FrameAt::Is(id, end) = frame_at(frames, at) else {
+            return Tallies {
+                are: false,
+                counts: [0; 16],
+                totals: [0; 16],
+            };
         };
-        if i == id {
-            count += 1;
-            total += end - at - 5;
-        }
+        let i = id as usize;
+        counts[i] += 1;
+        totals[i] += end - at - 5;
         at = end;
     }
-    Counted::Items(count, total)
+    Tallies {
+        are: true,
+        counts: counts,
+        totals: totals,
+    }
 }

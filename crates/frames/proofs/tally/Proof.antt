@@ -2,76 +2,81 @@
 use denote.Ref.{now}
 use native.Mathlib.Omega.{arith}
 use Prim.Native.Nat.{_+_, _-_, _≤_, _<_, _^_}
-use lib.ListN.{length}
-use mathlib.Core.Path.{subst}
-use Rattle.frames.specs.Place.{IsAt}
-use Rattle.frames.proofs.Walking.{Walked, walk-none, walk-item, walk-other, walk-stop, walk-done}
+use lib.ListN.{length, getD}
+use mathlib.Core.Path.{sym, _∙_}
 use borrow.Author.Needs.{needs}
-use Rattle.frames.specs.declared.FrameAt.the-variants.{Is}
+use Rattle.frames.proofs.Placing.{Begins, frame-found}
+use Rattle.frames.proofs.Walking.{Tallied, tally-none, tally-few, tally-more, tally-stop, tally-done, begins-below}
+use Rattle.frames.specs.Tally.{table, tallyOf}
 use Rattle.frames.proofs.tally.Statement.{statement}
 use Rattle.frames.proofs.tally.Tie as tie
 
 abbrev Inv-loop : tie.InvT-loop
-Inv-loop frames id count₀ total₀ at₀ count total at = Walked id frames count total at
+Inv-loop frames counts₀ totals₀ at₀ counts totals at = Tallied frames counts totals at
 
 abbrev μ-loop : tie.MeasureT-loop
-μ-loop frames id count₀ total₀ at₀ count total at = length frames - at
+μ-loop frames counts₀ totals₀ at₀ counts totals at = length frames - at
 
--- a frame, found
+-- the frame that was found
 found : (k : tie.After-known-told Inv-loop μ-loop)
-    → IsAt (now (k .before .before .before .before .before .before .before .args .frames)) (k .before .before .before .before .before .loop .at) (Is (k .before .i .given .0 .0) (k .before .i .given .0 .1 .0))
-found k = subst (IsAt (now (k .before .before .before .before .before .before .before .args .frames)) (k .before .before .before .before .before .loop .at)) (k .before .i .given .1) (k .before .before .before .frame-at .ensures)
+    → Begins (now (k .before .before .before .before .before .before .before .args .frames)) (k .before .before .before .before .before .loop .at) (k .before .id .given .0 .0) (k .before .id .given .0 .1 .0)
+found k = frame-found _ _ _ _ (sym (k .before .id .given .1) ∙ k .before .before .before .frame-at .ensures)
 
--- and where it ends
-end : (k : tie.After-known-told Inv-loop μ-loop)
-    → (k .before .before .before .before .before .loop .at + 5 ≤ k .before .i .given .0 .1 .0) × (k .before .i .given .0 .1 .0 ≤ length (now (k .before .before .before .before .before .before .before .args .frames)))
-end k = let f = found k in (omega (arith, f .3), f .4)
+below : (k : tie.After-known-told Inv-loop μ-loop) → k .before .id .given .0 .0 < 16
+below k = begins-below (found k)
+
+slice-fits : (k : tie.After-known-told Inv-loop μ-loop) → length (now (k .before .before .before .before .before .before .before .args .frames)) < 2 ^ 63
+slice-fits k = search needs
+
+few : (k : tie.After-known-told Inv-loop μ-loop) → getD (k .before .before .before .before .before .loop .counts) (k .before .id .given .0 .0) 0 + getD (k .before .before .before .before .before .loop .totals) (k .before .id .given .0 .0) 0 ≤ k .before .before .before .before .before .loop .at
+few k = tally-few (k .before .before .before .before .before .loop .inv) _ (below k)
 
 loop-holds : tie.Need-loop-holds Inv-loop μ-loop
-loop-holds c = walk-none (c .before .args .id) (now (c .before .args .frames))
-
-frame-at-requires : tie.Need-frame-at-requires Inv-loop μ-loop
-frame-at-requires c κs = c .before .loop .inv .within
+unfolding table
+loop-holds c = tally-none (now (c .before .args .frames))
 
 returns : tie.Need-returns Inv-loop μ-loop
-returns c =
-    let l = c .before .before .before .before in
-    let a = l .before .before .args in
-    walk-stop (a .id) (l .loop .inv) (c .before .before .before .loop-test .taken) (subst (IsAt (now (a .frames)) (l .loop .at)) (c .enum-told .given .1) (c .before .before .frame-at .ensures))
+unfolding table tallyOf
+returns c = tally-stop (c .before .before .before .before .loop .inv) (c .before .before .before .loop-test .taken) (sym (c .enum-told .given .1) ∙ c .before .before .frame-at .ensures)
 
-slice-fits : (c : tie.Then1 Inv-loop μ-loop) → length (now (c .before .before .before .before .before .before .before .before .args .frames)) < 2 ^ 63
-slice-fits c = search needs
+mul-counts : tie.Need-mul-counts Inv-loop μ-loop
+mul-counts c = omega (arith, below c)
 
-add-count : tie.Need-add-count Inv-loop μ-loop
-add-count c = omega (arith, c .before .before .before .before .before .before .loop .inv .few, end (c .before), slice-fits c)
+array-read-counts : tie.Need-array-read-counts Inv-loop μ-loop
+array-read-counts c = below c
 
-sub-total : tie.Need-sub-total Inv-loop μ-loop
-sub-total c = omega (arith, end (c .before))
+add-counts : tie.Need-add-counts Inv-loop μ-loop
+add-counts c = omega (arith, few c, found c .within, found c .long, slice-fits c)
 
-sub-total-2 : tie.Need-sub-total-2 Inv-loop μ-loop
-sub-total-2 c = omega (arith, end (c .before))
+array-write-counts : tie.Need-array-write-counts Inv-loop μ-loop
+array-write-counts c = below c
 
-add-total : tie.Need-add-total Inv-loop μ-loop
-add-total c = omega (arith, c .before .before .before .before .before .before .loop .inv .short, end (c .before), slice-fits c)
+sub-totals : tie.Need-sub-totals Inv-loop μ-loop
+sub-totals c = omega (arith, found c .long)
+
+sub-totals-2 : tie.Need-sub-totals-2 Inv-loop μ-loop
+sub-totals-2 c = omega (arith, found c .long)
+
+mul-totals : tie.Need-mul-totals Inv-loop μ-loop
+mul-totals c = omega (arith, below c)
+
+array-read-totals : tie.Need-array-read-totals Inv-loop μ-loop
+array-read-totals c = below c
+
+add-totals : tie.Need-add-totals Inv-loop μ-loop
+add-totals c = omega (arith, few c, found c .within, found c .long, slice-fits c)
+
+array-write-totals : tie.Need-array-write-totals Inv-loop μ-loop
+array-write-totals c = below c
 
 loop-less : tie.Need-loop-less Inv-loop μ-loop
-loop-less c = omega (arith, end (c .before))
+loop-less c = omega (arith, found c .within, found c .long)
 
 loop-again : tie.Need-loop-again Inv-loop μ-loop
-loop-again c =
-    let l = c .before .before .before .before .before in
-    walk-item (l .before .before .before .args .id) (l .before .loop .inv) (l .loop-test .taken) _ _ (found (c .before)) (omega (arith, c .if1 .taken))
-
-loop-less-2 : tie.Need-loop-less-2 Inv-loop μ-loop
-loop-less-2 c = omega (arith, end (c .before))
-
-loop-again-2 : tie.Need-loop-again-2 Inv-loop μ-loop
-loop-again-2 c =
-    let l = c .before .before .before .before .before in
-    walk-other (l .before .before .before .args .id) (l .before .loop .inv) (l .loop-test .taken) _ _ (found (c .before)) (c .if1 .left)
+loop-again c = tally-more (c .before .before .before .before .before .loop .inv) (c .before .before .before .before .loop-test .taken) (found c)
 
 returns-2 : tie.Need-returns-2 Inv-loop μ-loop
-returns-2 c = walk-done (c .before .before .before .args .id) (c .before .loop .inv) (c .loop-test .left)
+returns-2 c = tally-done (c .before .loop .inv) (c .loop-test .left)
 
 pub tally-spec : {M : Type 1} → statement M
 tally-spec =
@@ -80,16 +85,21 @@ tally-spec =
     Inv-loop
     μ-loop
     loop-holds
-    frame-at-requires
+    (λ c κs. search needs)
     (λ c. search needs)
     (λ c. search needs)
     returns
-    add-count
-    sub-total
-    sub-total-2
-    add-total
+    (λ c. search needs)
+    mul-counts
+    array-read-counts
+    add-counts
+    array-write-counts
+    sub-totals
+    sub-totals-2
+    mul-totals
+    array-read-totals
+    add-totals
+    array-write-totals
     loop-less
     loop-again
-    loop-less-2
-    loop-again-2
     returns-2)
