@@ -7,6 +7,7 @@ pub mod Alternatives
 pub mod Lists
 pub mod Sized
 pub mod Runs
+pub mod Answers
 pub mod Write
 pub mod Read
 pub mod Count

@@ -15,9 +15,12 @@ abbrev pub prints : {A : Type 0} → (A → List ℕ) → List A → List ℕ
 prints f [] = []
 prints f (a ∷ xs) = f a ++ prints f xs
 
+pub prints-append : {A : Type 0} (f : A → List ℕ) (xs ys : List A) → prints f (xs ++ ys) ≡ prints f xs ++ prints f ys
+prints-append f [] ys = refl
+prints-append f (x ∷ xs) ys = rw (prints-append f xs ys) (sym (append-assoc (f x) (prints f xs) (prints f ys)))
+
 pub prints-more : {A : Type 0} (f : A → List ℕ) (xs : List A) (a : A) → prints f (xs ++ (a ∷ [])) ≡ prints f xs ++ f a
-prints-more f [] a = append-nil (f a)
-prints-more f (x ∷ xs) a = rw (prints-more f xs a) (sym (append-assoc (f x) (prints f xs) (f a)))
+prints-more f xs a = rw (prints-append f xs (a ∷ []), append-nil)
 
 abbrev pub All : {A : Type 0} → (A → Type 0) → List A → Type 0
 All P [] = Unit {0}

@@ -1,5 +1,5 @@
 -- What writing answers and leaves: the one vocabulary of every writer into the rest of a lent buffer. Assumes nothing.
-use mathlib.Core.Path.{_≡_, refl, sym, _∙_, ap}
+use mathlib.Core.Path.{_≡_, refl, sym, _∙_, ap, subst}
 use mathlib.Core.Logic.{_↔_, _⊎_, inl, inr, ⊎-elim}
 use mathlib.Core.Bool.{Bool, true, false, cond}
 use mathlib.Core.List.{List, [], _∷_, _++_, append-assoc, append-nil}
@@ -8,7 +8,7 @@ use native.Mathlib.Nat.{le-refl, zero-add, add-zero, add-assoc}
 use native.Mathlib.Omega.{arith}
 use lib.Dec.{leb}
 use lib.ListN.{length, take, drop, set, length-append, length-drop, take-append-drop}
-use lib.Seq.{take-at, drop-drop, drop-length, take-all, length-take-le, drop-append-add, take-suc-set, drop-set-lt}
+use lib.Seq.{take-at, drop-at, drop-drop, drop-length, take-all, length-take-le, drop-append-add, take-suc-set, drop-set-lt}
 use borrow.Author.Tests.{le-leb, lt-leb, leb-true, leb-false}
 use borrow.Rule.Slice.PartMut.{putMid, midOf, post-is}
 use Rattle.format.specs.declared.Written.{Written}
@@ -181,3 +181,43 @@ todo-two i a b xs {r} {s} {zs} {ws} h w v =
     ∙ todo-part (i + length a) b [] ys v (omega arith)
     ∙ ap (λ (l : List ℕ). todo (i + length a) l ys) (append-nil b)
     ∙ todo-part i a b xs w (omega arith)
+
+-- ---- writers that there is room for, one behind the other
+
+pub fitted : {b xs ys : List ℕ} {r : Written} → Writes b xs ys r → length b ≤ length xs → Writes b xs ys (Length (length b))
+fitted w h = writes h refl (wrote w h .1)
+
+pub writes-as : {a b xs ys : List ℕ} {r : Written} → a ≡ b → Writes a xs ys r → Writes b xs ys r
+writes-as {xs = xs} {ys = ys} {r = r} e w = subst (λ (l : List ℕ). Writes l xs ys r) e w
+
+-- the second is lent what is behind the first
+pub writes-then : {a b xs ys zs : List ℕ} {n m : ℕ} → Writes a xs ys (Length n) → Writes b (midOf n (length ys - n) ys) zs (Length m)
+    → Writes (a ++ b) xs (putMid n (length ys - n) ys zs) (Length (n + m))
+writes-then {a} {b} {xs} {ys} {zs} {n} {m} w v =
+    let (k, h, e) = told-length w refl in
+    let (l, p, _) = told-length v refl in
+    let long : length ys ≡ length xs = ap length e ∙ simp (length-append, length-drop) (omega arith) in
+    let room : n + length b ≤ length ys = omega (arith, ap length (rest-lent n ys), length-drop n ys) in
+    let t : take n ys ≡ a = ap (take n) e ∙ take-at a (drop (length a) xs) n (sym k) in
+    let d : drop n ys ≡ drop (length a) xs = ap (drop n) e ∙ drop-at a (drop (length a) xs) n (sym k) in
+    writes (simp length-append (omega arith)) (simp length-append (omega arith))
+    (rest-wrote n b ys v room ∙ rw (t, d, drop-drop, length-append) (sym (append-assoc a b (drop (length a + length b) xs))))
+
+-- and there is room for it
+pub record Room (b ys : List ℕ) (n : ℕ) : Type 0 where
+  pub start : n ≤ length ys
+  pub room : length b ≤ length (midOf n (length ys - n) ys)
+
+pub room-then : {a xs ys : List ℕ} {n : ℕ} (b : List ℕ) → Writes a xs ys (Length n) → length (a ++ b) ≤ length xs → Room b ys n
+room-then {a} {xs} {ys} {n} b w h =
+    let (k, _, e) = told-length w refl in
+    let l : length (a ++ b) ≡ length a + length b = length-append a b in
+    let long : length ys ≡ length xs = ap length e ∙ simp (length-append, length-drop) (omega arith) in
+    record { start = omega arith; room = omega (arith, ap length (rest-lent n ys), length-drop n ys) }
+
+pub same-long : {a xs ys : List ℕ} {n : ℕ} → Writes a xs ys (Length n) → length ys ≡ length xs
+same-long w = let (_, h, e) = told-length w refl in ap length e ∙ simp (length-append, length-drop) (omega arith)
+
+-- what was written is no longer than what was lent
+pub within : {a xs ys : List ℕ} {n : ℕ} → Writes a xs ys (Length n) → n ≤ length xs
+within w = let (k, h, _) = told-length w refl in omega arith

@@ -7,11 +7,11 @@ use native.Mathlib.Omega.{arith}
 use lib.Dec.{eqb, leb}
 use lib.ListN.{length, take, drop, getD, length-append, length-drop}
 use borrow.Author.Tests.{lt-ltb, le-leb, lt-leb, ne-eqb}
-use lib.Seq.{drop-drop, take-at, drop-at}
+use lib.Seq.{drop-drop, take-at}
 use mathlib.Core.Logic.{⊎-elim}
 use Rattle.format.specs.Write.{fits-or}
 use Rattle.format.specs.Parsed.{Parsed, fail, got}
-use Rattle.format.specs.Read.{drop-more}
+use Rattle.format.specs.Read.{drop-more, placeOf, rest-at}
 use Rattle.frames.specs.Frames.{Frame, frame, frame-long, sections, among, valueOf, itemMost}
 use Rattle.frames.specs.declared.FrameAt.the-variants.{Is, No}
 use Rattle.frames.specs.Place.{placed, frameAt}
@@ -51,7 +51,7 @@ section-last i a b c d = rw (ne-eqb i 1 a, ne-eqb i 2 b, ne-eqb i 4 c, ne-eqb i 
 
 no-parse : (s : List ℕ) (at : ℕ) → frame .parse (drop at s) ≡ fail → No ≡ frameAt s at
 unfolding frameAt
-no-parse s at e = sym (ap (placed (length s)) e)
+no-parse s at e = sym (ap (placed s) e)
 
 pub no-head : (s : List ℕ) (at : ℕ) → length s < at + 5 → No ≡ frameAt s at
 no-head s at h = no-parse s at (frame-cut (drop at s) (omega (arith, length-drop at s)))
@@ -99,7 +99,7 @@ module _ (s : List ℕ) (at : ℕ) (h : at + 5 ≤ length s) (bytes : (k : ℕ) 
       let m : length s - length (drop n r) ≡ at + 5 + n = omega (arith, left, length-drop n r) in
       let p : frame .parse (drop at s) ≡ got (record { id = idAt; item = take n r }) (drop n r) =
       parsed ∙ rw (← q, e, le-leb n itemMost (omega arith), le-leb n (length r) room) in
-      sym (ap (placed (length s)) p ∙ ap (Is idAt) m)
+      sym (ap (placed s) p ∙ ap (Is idAt) m)
 
   pub no-section : among sections idAt ≡ false → No ≡ frameAt s at
   no-section e = no-parse s at (parsed ∙ rw e)
@@ -129,22 +129,21 @@ pub frame-found : (s : List ℕ) (at i end : ℕ) → Is i end ≡ frameAt s at 
 unfolding frameAt
 frame-found s at i end e = go (frame .parse (drop at s)) refl e
   where
-    go : (m : Parsed Frame) → frame .parse (drop at s) ≡ m → Is i end ≡ placed (length s) m → Begins s at i end
+    go : (m : Parsed Frame) → frame .parse (drop at s) ≡ m → Is i end ≡ placed s m → Begins s at i end
     go fail p q = let z : _≡_ {A = ℕ} 0 1 = cc in absurd (omega arith)
     go (got f r) p q =
         let o = frame .only (drop at s) f r p in
+        let (c, w) = rest-at frame s at f r p in
         let j : i ≡ f .id = cc in
-        let k : end ≡ length s - length r = cc in
+        let k : end ≡ placeOf s r = cc in
         let l : length s - at ≡ length (f .item) + 5 + length r = sym (length-drop at s) ∙ ap length (o .1) ∙ length-append (frame .print f) r ∙ ap (λ (n : ℕ). n + length r) (frame-long f) in
         let b : drop (at + 5) s ≡ f .item ++ r = sym (drop-drop 5 at s) ∙ ap (drop 5) (o .1) ∙ frame-rest f r in
         let n : end - (at + 5) ≡ length (f .item) = omega arith in
-        let e5 : at + 5 + length (f .item) ≡ end = omega arith in
-        let c : drop end s ≡ r = rw (← e5) (sym (drop-drop (length (f .item)) (at + 5) s)) ∙ ap (drop (length (f .item))) b ∙ drop-at (f .item) r (length (f .item)) refl in
         record {
           here = f;
           is = sym j;
           ok = o .0;
-          parse = p ∙ ap (got f) (sym c);
+          parse = p ∙ ap (got f) (c ∙ ap (λ (m : ℕ). drop m s) (sym k));
           long = omega arith;
           within = omega arith;
           item = sym (ap (take (end - (at + 5))) b ∙ take-at (f .item) r (end - (at + 5)) (sym n));
@@ -154,6 +153,6 @@ pub none-found : (s : List ℕ) (at : ℕ) → No ≡ frameAt s at → frame .pa
 unfolding frameAt
 none-found s at e = go (frame .parse (drop at s)) e
   where
-    go : (m : Parsed Frame) → No ≡ placed (length s) m → m ≡ fail
+    go : (m : Parsed Frame) → No ≡ placed s m → m ≡ fail
     go fail q = refl
     go (got f r) q = let z : _≡_ {A = ℕ} 0 1 = cc in absurd (omega arith)

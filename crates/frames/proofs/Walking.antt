@@ -1,23 +1,21 @@
 -- How far a walk over frames has come. Assumes nothing.
 use mathlib.Core.Path.{_≡_, refl, sym, ap, ap₂, _∙_}
 use mathlib.Core.Bool.{Bool, true, false, cond}
-use mathlib.Core.Logic.{⊎-elim}
-use mathlib.Core.Option.{Option, none, some, Option·map}
+use mathlib.Core.Option.{Option, none, some, Option·map, Option·none-ne-some}
 use mathlib.Core.List.{List, [], _∷_, _++_, append-nil, append-assoc}
-use Prim.Native.Nat.{ℕ, suc, _+_, _-_, _≤_, _<_}
+use Prim.Native.Nat.{ℕ, _+_, _-_, _≤_, _<_}
 use native.Mathlib.Omega.{arith}
 use lib.Dec.{eqb}
 use lib.ListN.{length, drop, getD, set, length-append, length-drop}
-use borrow.Author.Tests.{ne-eqb, eq-eqb, eqb-true}
+use borrow.Author.Tests.{ne-eqb, eq-eqb}
 use Rattle.format.specs.Runs.{run, run-more, run-stop, run-none}
 use Rattle.format.specs.Lists.{prints, prints-more}
-use Rattle.format.specs.Write.{fits-or}
 use Rattle.format.specs.Read.{drop-end}
-use Rattle.frames.specs.Frames.{Frame, frame, frame-some, frame-long, among, sections}
+use Rattle.frames.specs.Frames.{Frame, frame, frame-some, frame-long, among-each, sections}
 use Rattle.frames.specs.Place.{frameAt}
-use Rattle.frames.specs.declared.FrameAt.the-variants.{Is, No}
-use Rattle.frames.specs.Tally.{itemsOf, joined, table, countsOf, totalsOf, tallyOf, table-at, table-set}
-use Rattle.frames.proofs.Placing.{Begins, frame-found, none-found}
+use Rattle.frames.specs.declared.FrameAt.the-variants.{No}
+use Rattle.frames.specs.Tally.{itemsOf, joined, items-few, table, countsOf, totalsOf, tallyOf, table-at, table-set}
+use Rattle.frames.proofs.Placing.{Begins, none-found}
 
 -- ---- the frames before a place
 
@@ -51,6 +49,14 @@ module _ {s : List ℕ} {fs : List Frame} {at : ℕ} (w : Walked s fs at) where
         within = b .within;
       }
 
+  -- and those from there on
+  pub walk-rest : (all : List Frame) → run frame s ≡ some all → (gs : List Frame) × (all ≡ fs ++ gs)
+  walk-rest all e = go (run frame (drop at s)) (sym (w .rest) ∙ e)
+    where
+      go : (o : Option (List Frame)) → Option·map (λ (gs : List Frame). fs ++ gs) o ≡ some all → (gs : List Frame) × (all ≡ fs ++ gs)
+      go none q = absurd (Option·none-ne-some all q)
+      go (some gs) q = (gs, cc)
+
   pub walk-stop : at < length s → No ≡ frameAt s at → run frame s ≡ none
   walk-stop h e = w .rest ∙ ap (Option·map (λ (gs : List Frame). fs ++ gs)) (run-stop frame frame-some (drop at s) (omega (arith, length-drop at s)) (none-found s at e))
 
@@ -63,19 +69,19 @@ module _ {s : List ℕ} {fs : List Frame} {at : ℕ} (w : Walked s fs at) where
 
 -- ---- one frame more, of a section and of the others
 
-items-more : (i : ℕ) (fs : List Frame) (f : Frame) → itemsOf i (fs ++ (f ∷ [])) ≡ itemsOf i fs ++ itemsOf i (f ∷ [])
-items-more i [] f = refl
-items-more i (g ∷ fs) f = rw (items-more i fs f) (go (eqb (g .id) i))
+pub items-append : (i : ℕ) (fs gs : List Frame) → itemsOf i (fs ++ gs) ≡ itemsOf i fs ++ itemsOf i gs
+items-append i [] gs = refl
+items-append i (f ∷ fs) gs = rw (items-append i fs gs) (go (eqb (f .id) i))
   where
-    go : (t : Bool) → cond t (g .item ∷ (itemsOf i fs ++ itemsOf i (f ∷ []))) (itemsOf i fs ++ itemsOf i (f ∷ [])) ≡ cond t (g .item ∷ itemsOf i fs) (itemsOf i fs) ++ itemsOf i (f ∷ [])
+    go : (t : Bool) → cond t (f .item ∷ (itemsOf i fs ++ itemsOf i gs)) (itemsOf i fs ++ itemsOf i gs) ≡ cond t (f .item ∷ itemsOf i fs) (itemsOf i fs) ++ itemsOf i gs
     go true = refl
     go false = refl
 
-items-one : (i : ℕ) (fs : List Frame) (f : Frame) → f .id ≡ i → itemsOf i (fs ++ (f ∷ [])) ≡ itemsOf i fs ++ (f .item ∷ [])
-items-one i fs f e = items-more i fs f ∙ rw (eq-eqb (f .id) i e)
+pub items-one : (i : ℕ) (fs : List Frame) (f : Frame) → f .id ≡ i → itemsOf i (fs ++ (f ∷ [])) ≡ itemsOf i fs ++ (f .item ∷ [])
+items-one i fs f e = items-append i fs (f ∷ []) ∙ rw (eq-eqb (f .id) i e)
 
-items-other : (i : ℕ) (fs : List Frame) (f : Frame) → (f .id ≡ i → ⊥) → itemsOf i (fs ++ (f ∷ [])) ≡ itemsOf i fs
-items-other i fs f h = items-more i fs f ∙ rw (ne-eqb (f .id) i h) (append-nil (itemsOf i fs))
+pub items-other : (i : ℕ) (fs : List Frame) (f : Frame) → (f .id ≡ i → ⊥) → itemsOf i (fs ++ (f ∷ [])) ≡ itemsOf i fs
+items-other i fs f h = items-append i fs (f ∷ []) ∙ rw (ne-eqb (f .id) i h) (append-nil (itemsOf i fs))
 
 -- a table of numbers of each section's items, where an item adds n
 table-more : (m : List (List ℕ) → ℕ) (fs : List Frame) (f : Frame) (i n : ℕ) → f .id ≡ i → i < 16 → m (itemsOf i fs ++ (f .item ∷ [])) ≡ m (itemsOf i fs) + n
@@ -89,19 +95,6 @@ table-more m fs f i n e h a {l} p =
 
 -- ---- a tally
 
--- items and their bytes take no more room than their frames
-items-few : (i : ℕ) (fs : List Frame) → length (itemsOf i fs) + length (joined (itemsOf i fs)) ≤ length (prints (frame .print) fs)
-items-few i [] = omega arith
-items-few i (f ∷ fs) = go (eqb (f .id) i) (items-few i fs)
-  where
-    n : length (frame .print f ++ prints (frame .print) fs) ≡ length (f .item) + 5 + length (prints (frame .print) fs)
-    n = length-append (frame .print f) (prints (frame .print) fs) ∙ ap (λ (x : ℕ). x + length (prints (frame .print) fs)) (frame-long f)
-
-    go : (t : Bool) → length (itemsOf i fs) + length (joined (itemsOf i fs)) ≤ length (prints (frame .print) fs)
-        → length (cond t (f .item ∷ itemsOf i fs) (itemsOf i fs)) + length (joined (cond t (f .item ∷ itemsOf i fs) (itemsOf i fs))) ≤ length (frame .print f ++ prints (frame .print) fs)
-    go true h = omega (arith, n, length-append (f .item) (joined (itemsOf i fs)))
-    go false h = omega (arith, n)
-
 -- the frames before a place, tallied
 pub record Tallied (s counts totals : List ℕ) (at : ℕ) : Type 0 where
   pub past : List Frame
@@ -113,18 +106,8 @@ pub tally-none : (s : List ℕ) → Tallied s (table 16 (λ i. 0)) (table 16 (λ
 tally-none s = record { past = []; walk = walk-none s; count = refl; total = refl }
 
 -- a section's id is below 16
-id-below : (i : ℕ) → among sections i ≡ true → i < 16
-id-below i e = ⊎-elim (λ h. absurd (above h)) (λ h. h) (fits-or 16 i)
-  where
-    above : 16 ≤ i → ⊥
-    above h =
-        let d : among sections i ≡ false = rw (ne-eqb i 1 (λ q. omega arith), ne-eqb i 2 (λ q. omega arith), ne-eqb i 4 (λ q. omega arith), ne-eqb i 9 (λ q. omega arith), ne-eqb i 11 (λ q. omega arith)) in
-        let f : true ≡ false = sym e ∙ d in
-        let z : _≡_ {A = ℕ} 0 1 = cc in
-        omega arith
-
 pub begins-below : {s : List ℕ} {at i end : ℕ} → Begins s at i end → i < 16
-begins-below b = rw (← (b .is)) (id-below (b .here .id) (b .ok .0 .1))
+begins-below b = rw (← (b .is)) (among-each (λ i. i < 16) sections (b .here .id) (omega arith, (omega arith, (omega arith, (omega arith, (omega arith, tt))))) (b .ok .0 .1))
 
 module _ {s counts totals : List ℕ} {at : ℕ} (t : Tallied s counts totals at) where
   -- what stands in the arrays is no more than the place

@@ -1,7 +1,7 @@
 -- What appending a frame answers and leaves, for every input (document 01, Store and module; Answers by number). Assumes nothing.
 use mathlib.Core.Path.{_≡_, refl, sym, ap, _∙_}
-use mathlib.Core.Logic.{_↔_, _⊎_, inl, inr, ⊎-elim}
-use mathlib.Core.Bool.{cond}
+use mathlib.Core.Logic.{_↔_}
+use mathlib.Core.Bool.{Bool, true, cond, _||_}
 use mathlib.Core.List.{List, [], _∷_, _++_, append-assoc}
 use mathlib.Core.Option.{some}
 use Prim.Native.Nat.{ℕ, _+_, _/_, _%_, _≤_, _<_, _^_}
@@ -9,12 +9,12 @@ use native.Mathlib.Omega.{arith}
 use lib.Dec.{ltb, eqb}
 use lib.ListN.{length, take, drop, length-append}
 use lib.Seq.{take-at, length-take-le}
-use borrow.Author.Tests.{lt-ltb, le-ltb, le-leb}
+use borrow.Author.Tests.{lt-ltb, le-ltb, ltb-false, le-leb}
 use Rattle.format.specs.Lists.{All, prints, prints-more}
 use Rattle.format.specs.Runs.{run, run-only, run-back}
-use Rattle.format.specs.Write.{todo, fits-or}
+use Rattle.format.specs.Answers.{answer, NoneHolds, given-exactly, accepted-exactly, neither, settled, settled-accepts, settled-refuses, settled-exactly, one-stands}
+use Rattle.format.specs.Write.{todo}
 use Rattle.frames.specs.Frames.{Frame, frame, framesIn, frame-some, idOf, id-among, id-small, itemMost}
-use Rattle.frames.specs.declared.State.{State}
 use Rattle.frames.specs.declared.SectionId.{SectionId}
 use Rattle.frames.specs.declared.Appended.{Appended}
 use Rattle.frames.specs.declared.Appended.the-variants.{To, Over, Large, Full}
@@ -37,27 +37,23 @@ outcome used Large ys = record { number = 6; used = used; store = ys }
 outcome used Full ys = record { number = 7; used = used; store = ys }
 
 -- any two answers and stores that stand for the same are equal
-abbrev answerOf : Outcome → Appended
-answerOf o = cond (eqb (o .number) 0) (To (record { used = o .used })) (cond (eqb (o .number) 1) Over (cond (eqb (o .number) 6) Large Full))
+pub one-appended : (used : ℕ) {w : Outcome} {r s : Appended} {ys zs : List ℕ} → outcome used r ys ≡ w → outcome used s zs ≡ w → (r ≡ s) × (ys ≡ zs)
+one-appended used = one-stands (outcome used) answerOf (λ o. o .store) answer-of store-of
+  where
+    answerOf : Outcome → Appended
+    answerOf o = cond (eqb (o .number) 0) (To (record { used = o .used })) (cond (eqb (o .number) 1) Over (cond (eqb (o .number) 6) Large Full))
 
-answer-of : (used : ℕ) (r : Appended) (ys : List ℕ) → answerOf (outcome used r ys) ≡ r
-answer-of used (To s) ys = refl
-answer-of used Over ys = refl
-answer-of used Large ys = refl
-answer-of used Full ys = refl
+    answer-of : (r : Appended) (ys : List ℕ) → answerOf (outcome used r ys) ≡ r
+    answer-of (To s) ys = refl
+    answer-of Over ys = refl
+    answer-of Large ys = refl
+    answer-of Full ys = refl
 
-store-of : (used : ℕ) (r : Appended) (ys : List ℕ) → outcome used r ys .store ≡ ys
-store-of used (To s) ys = refl
-store-of used Over ys = refl
-store-of used Large ys = refl
-store-of used Full ys = refl
-
-pub one-appended : (used : ℕ) {w : Outcome} (r s : Appended) (ys zs : List ℕ) → outcome used r ys ≡ w → outcome used s zs ≡ w → (r ≡ s) × (ys ≡ zs)
-one-appended used r s ys zs p q =
-    let e = p ∙ sym q in (
-      sym (answer-of used r ys) ∙ ap answerOf e ∙ answer-of used s zs,
-      sym (store-of used r ys) ∙ ap (λ (o : Outcome). o .store) e ∙ store-of used s zs,
-    )
+    store-of : (r : Appended) (ys : List ℕ) → outcome used r ys .store ≡ ys
+    store-of (To s) ys = refl
+    store-of Over ys = refl
+    store-of Large ys = refl
+    store-of Full ys = refl
 
 -- a refusal changes nothing
 abbrev pub refused : ℕ → List ℕ → ℕ → Outcome
@@ -66,103 +62,79 @@ refused used xs n = record { number = n; used = used; store = xs }
 abbrev pub storeMost : ℕ
 storeMost = 16777216
 
+-- store over its limit, or room used above its length
+abbrev pub isOver : ℕ → List ℕ → Bool
+isOver used xs = ltb storeMost (length xs) || ltb (length xs) used
+
+-- item over 65,536 bytes
+abbrev pub isLarge : List ℕ → Bool
+isLarge item = ltb itemMost (length item)
+
+-- room used + item length + 5 above store length
+abbrev pub isFull : ℕ → List ℕ → List ℕ → Bool
+isFull used xs item = ltb (length xs) (used + length item + 5)
+
 module _ (used : ℕ) (xs : List ℕ) (s : SectionId) (item : List ℕ) where
-  -- else section id, item length and item stand from the room used on, it grows by the item's length plus 5, and no other byte changes
+  abbrev pub conditions : List (ℕ × Bool)
+  conditions = (1, isOver used xs) ∷ (6, isLarge item) ∷ (7, isFull used xs item) ∷ []
+
+  -- section id, item length and item stand from the room used on, it grows by the item's length plus 5, and no other byte changes
+  abbrev pub appended : Outcome
+  appended = record { number = 0; used = used + length item + 5; store = todo used (headBytes (idOf s) (length item) ++ item) xs }
+
   unfoldable pub appending : Outcome
-  appending =
-      cond (ltb storeMost (length xs)) (refused used xs 1)
-      (cond (ltb (length xs) used) (refused used xs 1)
-      (cond (ltb itemMost (length item)) (refused used xs 6)
-      (cond (ltb (length xs) (used + length item + 5)) (refused used xs 7)
-      (record { number = 0; used = used + length item + 5; store = todo used (headBytes (idOf s) (length item) ++ item) xs }))))
-
-  -- ---- the cases, in the order in which they are judged
-
-  pub over-limit : storeMost < length xs → outcome used Over xs ≡ appending
-  unfolding appending
-  over-limit h = rw (lt-ltb storeMost (length xs) h)
-
-  module _ (h : length xs ≤ storeMost) where
-    pub over-used : length xs < used → outcome used Over xs ≡ appending
-    unfolding appending
-    over-used k = rw (le-ltb storeMost (length xs) h, lt-ltb (length xs) used k)
-
-    module _ (k : used ≤ length xs) where
-      pub large : itemMost < length item → outcome used Large xs ≡ appending
-      unfolding appending
-      large l = rw (le-ltb storeMost (length xs) h, le-ltb (length xs) used k, lt-ltb itemMost (length item) l)
-
-      module _ (l : length item ≤ itemMost) where
-        pub full : length xs < used + length item + 5 → outcome used Full xs ≡ appending
-        unfolding appending
-        full m = rw (le-ltb storeMost (length xs) h, le-ltb (length xs) used k, le-ltb itemMost (length item) l, lt-ltb (length xs) (used + length item + 5) m)
-
-        pub fits : used + length item + 5 ≤ length xs → {t : State} {ys : List ℕ} → t .used ≡ used + length item + 5
-            → ys ≡ todo used (headBytes (idOf s) (length item) ++ item) xs → outcome used (To t) ys ≡ appending
-        unfolding appending
-        fits m {t} {ys} e w =
-            rw (le-ltb storeMost (length xs) h, le-ltb (length xs) used k, le-ltb itemMost (length item) l, le-ltb (length xs) (used + length item + 5) m, e, w)
+  appending = settled (refused used xs) appended (answer conditions)
 
   -- ---- each number is given exactly on its condition, where no earlier one's holds
 
-  abbrev pub IsOver : Type 0
-  IsOver = (storeMost < length xs) ⊎ (length xs < used)
+  exactly : {P : Type 0} {n : ℕ} → (answer conditions ≡ n) ↔ P → (appending .number ≡ n) ↔ P
+  unfolding appending
+  exactly = settled-exactly (refused used xs) appended (λ o. o .number) refl (λ n. refl)
 
-  abbrev pub Sound : Type 0
-  Sound = (length xs ≤ storeMost) × (used ≤ length xs)
+  pub one-exactly : (appending .number ≡ 1) ↔ (NoneHolds [] × (isOver used xs ≡ true))
+  one-exactly = exactly (given-exactly 1 (isOver used xs) [] (drop 1 conditions) (λ e. omega arith) refl refl)
 
-  abbrev pub IsLarge : Type 0
-  IsLarge = Sound × (itemMost < length item)
+  pub six-exactly : (appending .number ≡ 6) ↔ (NoneHolds (take 1 conditions) × (isLarge item ≡ true))
+  six-exactly = exactly (given-exactly 6 (isLarge item) (take 1 conditions) (drop 2 conditions) (λ e. omega arith) refl refl)
 
-  abbrev pub IsFull : Type 0
-  IsFull = Sound × (length item ≤ itemMost) × (length xs < used + length item + 5)
+  pub seven-exactly : (appending .number ≡ 7) ↔ (NoneHolds (take 2 conditions) × (isFull used xs item ≡ true))
+  seven-exactly = exactly (given-exactly 7 (isFull used xs item) (take 2 conditions) [] (λ e. omega arith) refl refl)
 
-  abbrev pub IsFit : Type 0
-  IsFit = Sound × (length item ≤ itemMost) × (used + length item + 5 ≤ length xs)
+  pub zero-exactly : (appending .number ≡ 0) ↔ NoneHolds conditions
+  zero-exactly = exactly (accepted-exactly conditions refl)
 
-  judged : {P : Type 0} → (IsOver → P) → (IsLarge → P) → (IsFull → P) → (IsFit → P) → P
-  judged {P} a b c d = ⊎-elim sound (λ h. a (inl h)) (fits-or (length xs) storeMost)
-    where
-      fit : Sound → length item ≤ itemMost → P
-      fit h l = ⊎-elim (λ m. d (h, l, m)) (λ m. c (h, l, m)) (fits-or (used + length item + 5) (length xs))
+  -- ---- what meets it
 
-      small : Sound → P
-      small h = ⊎-elim (fit h) (λ l. b (h, l)) (fits-or (length item) itemMost)
+  refuses : (n : ℕ) → (n ≡ 0 → ⊥) → answer conditions ≡ n → refused used xs n ≡ appending
+  unfolding appending
+  refuses n z e = sym (ap (settled (refused used xs) appended) e ∙ settled-refuses (refused used xs) appended n z)
 
-      sound : length xs ≤ storeMost → P
-      sound h = ⊎-elim (λ k. small (h, k)) (λ k. a (inr k)) (fits-or used (length xs))
+  pub over-limit : storeMost < length xs → refused used xs 1 ≡ appending
+  over-limit h = refuses 1 (λ e. omega arith) (rw (lt-ltb storeMost (length xs) h))
 
-  gives : {o : Outcome} → o ≡ appending → appending .number ≡ o .number
-  gives e = ap (λ (o : Outcome). o .number) (sym e)
+  module _ (h : length xs ≤ storeMost) where
+    pub over-used : length xs < used → refused used xs 1 ≡ appending
+    over-used k = refuses 1 (λ e. omega arith) (rw (le-ltb storeMost (length xs) h, lt-ltb (length xs) used k))
 
-  on-over : IsOver → appending .number ≡ 1
-  on-over (inl h) = gives (over-limit h)
-  on-over (inr k) = ⊎-elim (λ h. gives (over-used h k)) (λ h. gives (over-limit h)) (fits-or (length xs) storeMost)
+    module _ (k : used ≤ length xs) where
+      pub large : itemMost < length item → refused used xs 6 ≡ appending
+      large l = refuses 6 (λ e. omega arith) (rw (le-ltb storeMost (length xs) h, le-ltb (length xs) used k, lt-ltb itemMost (length item) l))
 
-  on-large : IsLarge → appending .number ≡ 6
-  on-large (h, l) = gives (large (h .0) (h .1) l)
+      module _ (l : length item ≤ itemMost) where
+        pub full : length xs < used + length item + 5 → refused used xs 7 ≡ appending
+        full m = refuses 7 (λ e. omega arith) (rw (le-ltb storeMost (length xs) h, le-ltb (length xs) used k, le-ltb itemMost (length item) l, lt-ltb (length xs) (used + length item + 5) m))
 
-  on-full : IsFull → appending .number ≡ 7
-  on-full (h, l, m) = gives (full (h .0) (h .1) l m)
+        pub fits : used + length item + 5 ≤ length xs → appended ≡ appending
+        unfolding appending
+        fits m =
+            let e : answer conditions ≡ 0 = rw (le-ltb storeMost (length xs) h, le-ltb (length xs) used k, le-ltb itemMost (length item) l, le-ltb (length xs) (used + length item + 5) m) in
+            sym (settled-accepts (refused used xs) appended (answer conditions) e)
 
-  on-fit : IsFit → appending .number ≡ 0
-  on-fit (h, l, m) = gives (fits (h .0) (h .1) l m {t = record { used = used + length item + 5 }} refl refl)
-
-  pub one-exactly : (appending .number ≡ 1) ↔ IsOver
-  one-exactly =
-      (λ e. judged (λ h. h) (λ h. absurd (let z = on-large h in omega arith)) (λ h. absurd (let z = on-full h in omega arith)) (λ h. absurd (let z = on-fit h in omega arith)), on-over)
-
-  pub six-exactly : (appending .number ≡ 6) ↔ IsLarge
-  six-exactly =
-      (λ e. judged (λ h. absurd (let z = on-over h in omega arith)) (λ h. h) (λ h. absurd (let z = on-full h in omega arith)) (λ h. absurd (let z = on-fit h in omega arith)), on-large)
-
-  pub seven-exactly : (appending .number ≡ 7) ↔ IsFull
-  seven-exactly =
-      (λ e. judged (λ h. absurd (let z = on-over h in omega arith)) (λ h. absurd (let z = on-large h in omega arith)) (λ h. h) (λ h. absurd (let z = on-fit h in omega arith)), on-full)
-
-  pub zero-exactly : (appending .number ≡ 0) ↔ IsFit
-  zero-exactly =
-      (λ e. judged (λ h. absurd (let z = on-over h in omega arith)) (λ h. absurd (let z = on-large h in omega arith)) (λ h. absurd (let z = on-full h in omega arith)) (λ h. h), on-fit)
+  -- what was accepted fits
+  pub sound : NoneHolds conditions → (length xs ≤ storeMost) × (used ≤ length xs) × (length item ≤ itemMost) × (used + length item + 5 ≤ length xs)
+  sound (a, (b, (c, _))) =
+      let (d, e) = neither (ltb storeMost (length xs)) (ltb (length xs) used) a in
+      (ltb-false storeMost (length xs) d, ltb-false (length xs) used e, ltb-false itemMost (length item) b, ltb-false (length xs) (used + length item + 5) c)
 
 -- ---- adding appends a frame
 
@@ -195,8 +167,9 @@ framed-ok s item l = ((id-small s, id-among s), (omega arith, le-leb (length ite
 pub adding-appends : (used : ℕ) (xs : List ℕ) (s : SectionId) (item : List ℕ) (fs : List Frame) → framesIn used xs ≡ some fs → appending used xs s item .number ≡ 0
     → framesIn (appending used xs s item .used) (appending used xs s item .store) ≡ some (fs ++ (framed s item ∷ []))
 adding-appends used xs s item fs e a =
-    let (h, l, m) = zero-exactly used xs s item .0 a in
+    let (g, h, l, m) = sound used xs s item (zero-exactly used xs s item .0 a) in
     let f = framed s item in
     let b : frame .print f ≡ headBytes (idOf s) (length item) ++ item = frame-bytes f (omega arith) in
-    let q = fits used xs s item (h .0) (h .1) l m {t = record { used = used + length item + 5 }} refl (ap (λ (p : List ℕ). todo used p xs) b) in
-    sym (ap (λ (o : Outcome). framesIn (o .used) (o .store)) q) ∙ frames-appended used xs f fs e (framed-ok s item l) m
+    sym (ap (λ (o : Outcome). framesIn (o .used) (o .store)) (fits used xs s item g h l m))
+    ∙ ap (λ (p : List ℕ). framesIn (used + length item + 5) (todo used p xs)) (sym b)
+    ∙ frames-appended used xs f fs e (framed-ok s item l) m

@@ -2,19 +2,20 @@
 -- it that does not depend on the store (2 to 6 of document 01, 0 where there is none), and an item. Assumes nothing.
 use mathlib.Core.Path.{_≡_, refl, sym, ap, _∙_, subst}
 use mathlib.Core.Logic.{_⊎_, inl, inr, ⊎-elim}
-use mathlib.Core.Bool.{Bool, true, false, cond}
+use mathlib.Core.Bool.{Bool, true, false, cond, not}
 use mathlib.Core.Option.{some}
 use mathlib.Core.List.{List, [], _∷_, _++_, map, append-nil, append-assoc}
 use Prim.Native.Nat.{ℕ, _+_, _≤_}
 use native.Mathlib.Omega.{arith}
-use lib.Dec.{eqb, ltb}
+use lib.Dec.{eqb}
 use lib.ListN.{length}
-use borrow.Author.Tests.{le-ltb, eq-eqb, eqb-true, eqb-false, ne-eqb}
+use borrow.Author.Tests.{eq-eqb, eqb-true, eqb-false, ne-eqb}
 use Rattle.format.specs.Lists.{All}
+use Rattle.format.specs.Answers.{answer, settled, settled-exactly}
 use Rattle.format.specs.Runs.{run-none}
 use Rattle.format.specs.Write.{todo, length-todo}
 use Rattle.frames.specs.Frames.{Frame, frame, framesIn, frame-some, frame-long, idOf, itemMost}
-use Rattle.frames.specs.Append.{Outcome, refused, storeMost, appending, fits, zero-exactly, frame-bytes, framed, framed-ok, frames-appended}
+use Rattle.frames.specs.Append.{Outcome, refused, storeMost, isOver, isLarge, isFull, appended, appending, fits, sound, zero-exactly, frame-bytes, framed, framed-ok, frames-appended}
 use Rattle.frames.specs.Tally.{itemsOf}
 use Rattle.frames.specs.declared.SectionId.{SectionId}
 use Rattle.frames.specs.declared.SectionId.the-variants.{Types, Imports, Tables, Elements, Data}
@@ -24,23 +25,16 @@ module _ (Call : Type 0) (sec : Call → SectionId) (why : Call → ℕ) (item :
   frameOf c = framed (sec c) (item c)
 
   -- an add: 1, then the call's own reason, then what appending its frame answers (document 01: 1 to 7, lowest first)
+  abbrev pub judged : ℕ → List ℕ → Call → List (ℕ × Bool)
+  judged used xs c = (1, isOver used xs) ∷ (why c, not (eqb (why c) 0)) ∷ (6, isLarge (item c)) ∷ (7, isFull used xs (item c)) ∷ []
+
   unfoldable pub adding : ℕ → List ℕ → Call → Outcome
-  adding used xs c =
-      cond (ltb storeMost (length xs)) (refused used xs 1)
-      (cond (ltb (length xs) used) (refused used xs 1)
-      (cond (eqb (why c) 0) (appending used xs (sec c) (item c)) (refused used xs (why c))))
+  adding used xs c = settled (refused used xs) (appended used xs (sec c) (item c)) (answer (judged used xs c))
 
   -- a call without a reason of its own is answered as appending its frame is
   pub adding-plain : (used : ℕ) (xs : List ℕ) (c : Call) → why c ≡ 0 → adding used xs c ≡ appending used xs (sec c) (item c)
   unfolding adding appending
-  adding-plain used xs c e = rw (eq-eqb (why c) 0 e) (go (ltb storeMost (length xs)) (ltb (length xs) used) _)
-    where
-      go : (t u : Bool) (o : Outcome)
-          → cond t (refused used xs 1) (cond u (refused used xs 1) (cond t (refused used xs 1) (cond u (refused used xs 1) o)))
-          ≡ cond t (refused used xs 1) (cond u (refused used xs 1) o)
-      go true u o = refl
-      go false true o = refl
-      go false false o = refl
+  adding-plain used xs c e = rw (eq-eqb (why c) 0 e)
 
   -- what a sequence of adds leaves
   abbrev pub adds : ℕ → List ℕ → List Call → Outcome
@@ -74,23 +68,27 @@ module _ (Call : Type 0) (sec : Call → SectionId) (why : Call → ℕ) (item :
   after used xs c = record { number = 0; used = used + length (item c) + 5; store = todo used (frame .print (frameOf c)) xs }
 
   sound-adds : (used : ℕ) (xs : List ℕ) (c : Call) → Sound c → length xs ≤ storeMost → used + size c ≤ length xs → adding used xs c ≡ after used xs c
-  unfolding adding
   sound-adds used xs c (e, l) h k =
-      let b = frame-bytes (frameOf c) (omega arith) in
-      rw (le-ltb storeMost (length xs) h, le-ltb (length xs) used (omega arith), eq-eqb (why c) 0 e)
-      (sym (fits used xs (sec c) (item c) h (omega arith) l (omega arith) {t = record { used = used + length (item c) + 5 }} refl (ap (λ (p : List ℕ). todo used p xs) b)))
+      adding-plain used xs c e
+      ∙ sym (fits used xs (sec c) (item c) h (omega arith) l (omega arith))
+      ∙ ap (λ (p : List ℕ). record { number = 0; used = used + length (item c) + 5; store = todo used p xs }) (sym (frame-bytes (frameOf c) (omega arith)))
+
+  no-reason : (used : ℕ) (xs : List ℕ) (c : Call) → adding used xs c .number ≡ 0 → why c ≡ 0
+  unfolding adding
+  no-reason used xs c e =
+      go (isOver used xs) (eqb (why c) 0) refl (answer ((6, isLarge (item c)) ∷ (7, isFull used xs (item c)) ∷ []))
+      (settled-exactly (refused used xs) (appended used xs (sec c) (item c)) (λ o. o .number) refl (λ n. refl) {P = answer (judged used xs c) ≡ 0} (λ q. q, λ q. q) .0 e)
+    where
+      go : (t u : Bool) → eqb (why c) 0 ≡ u → (n : ℕ) → cond t 1 (cond (not u) (why c) n) ≡ 0 → why c ≡ 0
+      go true u p n q = absurd (omega arith)
+      go false true p n q = eqb-true (why c) 0 p
+      go false false p n q = q
 
   adds-sound : (used : ℕ) (xs : List ℕ) (c : Call) → adding used xs c .number ≡ 0 → Sound c × (length xs ≤ storeMost) × (used + size c ≤ length xs)
-  unfolding adding
-  adds-sound used xs c = go (ltb storeMost (length xs)) (ltb (length xs) used) (eqb (why c) 0) refl
-    where
-      go : (t u v : Bool) → eqb (why c) 0 ≡ v
-          → cond t (refused used xs 1) (cond u (refused used xs 1) (cond v (appending used xs (sec c) (item c)) (refused used xs (why c)))) .number ≡ 0
-          → Sound c × (length xs ≤ storeMost) × (used + size c ≤ length xs)
-      go true u v r e = absurd (omega arith)
-      go false true v r e = absurd (omega arith)
-      go false false true r e = let (h, l, m) = zero-exactly used xs (sec c) (item c) .0 e in ((eqb-true (why c) 0 r, l), h .0, omega arith)
-      go false false false r e = absurd (eqb-false (why c) 0 r e)
+  adds-sound used xs c e =
+      let w = no-reason used xs c e in
+      let (g, h, l, m) = sound used xs (sec c) (item c) (zero-exactly used xs (sec c) (item c) .0 (ap (λ (o : Outcome). o .number) (sym (adding-plain used xs c w)) ∙ e)) in
+      ((w, l), g, omega arith)
 
   after-long : (used : ℕ) (xs : List ℕ) (c : Call) → used + size c ≤ length xs → length (after used xs c .store) ≡ length xs
   after-long used xs c h = length-todo used (frame .print (frameOf c)) xs (omega (arith, frame-long (frameOf c)))

@@ -1,18 +1,20 @@
 -- Frames (document 01, Store and module): section id, item length in four bytes, low first, then the item; and the frames that a store's used room holds
 -- (answer 9: none). Assumes nothing.
-use mathlib.Core.Path.{_≡_, refl, sym, ap, _∙_}
-use mathlib.Core.Bool.{Bool, true, false, cond}
-use mathlib.Core.Option.{Option, some}
+use mathlib.Core.Path.{_≡_, refl, sym, ap, _∙_, subst}
+use mathlib.Core.Bool.{Bool, true, false, cond, true≢false}
+use mathlib.Core.Option.{Option, none, some}
 use mathlib.Core.List.{List, [], _∷_}
 use Prim.Native.Nat.{ℕ, _+_, _*_, _/_, _%_, _<_, _^_}
 use native.Mathlib.Omega.{arith}
 use lib.Dec.{eqb, leb}
 use lib.ListN.{length, take}
+use borrow.Author.Tests.{eqb-true}
 use Rattle.format.specs.Format.{Format}
+use Rattle.format.specs.Lists.{All}
 use Rattle.format.specs.Basic.{number, via}
 use Rattle.format.specs.Combine.{pair, iso, guard}
 use Rattle.format.specs.Sized.{sized}
-use Rattle.format.specs.Runs.{run}
+use Rattle.format.specs.Runs.{run, run-only}
 use Rattle.frames.specs.declared.SectionId.{SectionId}
 use Rattle.frames.specs.declared.SectionId.the-variants.{Types, Imports, Tables, Elements, Data}
 
@@ -83,6 +85,15 @@ abbrev pub among : List ℕ → ℕ → Bool
 among [] i = false
 among (x ∷ xs) i = cond (eqb i x) true (among xs i)
 
+-- what holds of each of them holds of what is among them
+pub among-each : (P : ℕ → Type 0) (xs : List ℕ) (i : ℕ) → All P xs → among xs i ≡ true → P i
+among-each P [] i h e = absurd (true≢false (sym e))
+among-each P (x ∷ xs) i h e = go (eqb i x) refl e (among-each P xs i (h .1))
+  where
+    go : (t : Bool) → eqb i x ≡ t → cond t true (among xs i) ≡ true → (among xs i ≡ true → P i) → P i
+    go true q e f = subst P (sym (eqb-true i x q)) (h .0)
+    go false q e f = f e
+
 pub id-among : (s : SectionId) → among sections (idOf s) ≡ true
 id-among Types = refl
 id-among Imports = refl
@@ -113,6 +124,27 @@ frame =
 -- the frames that the first `room` bytes of a store are, from byte 0; none where they do not end there
 abbrev pub framesIn : ℕ → List ℕ → Option (List Frame)
 framesIn room store = run frame (take room store)
+
+-- whether there are none, and those that there are
+abbrev pub noFrames : Option (List Frame) → Bool
+noFrames none = true
+noFrames (some fs) = false
+
+abbrev pub held : Option (List Frame) → List Frame
+held none = []
+held (some fs) = fs
+
+-- those that bytes are
+abbrev pub framesOf : List ℕ → List Frame
+framesOf s = held (run frame s)
+
+-- each of them is one
+pub frames-ok : (s : List ℕ) → All (frame .Ok) (framesOf s)
+frames-ok s = go (run frame s) refl
+  where
+    go : (o : Option (List Frame)) → run frame s ≡ o → All (frame .Ok) (held o)
+    go none e = tt
+    go (some fs) e = run-only frame s fs e .0
 
 pub frame-long : (f : Frame) → length (frame .print f) ≡ length (f .item) + 5
 frame-long f = omega arith

@@ -1,2 +1,6 @@
 -- What the proofs of `module` share.
-pub mod Order
+pub mod Looking
+pub mod Lengths
+pub mod Copying
+pub mod Listed
+pub mod Finishing

@@ -1,20 +1,18 @@
 -- Demand 3: two sequences of adds on fresh stores of equal length, with the same calls, each section's in the same order: all accepted in one means all
 -- accepted in the other, and then finishing alike gives the same answer and bytes. Assumes nothing.
-use mathlib.Core.Path.{_≡_, refl, ap}
-use mathlib.Core.Bool.{Bool, true, false, cond}
-use mathlib.Core.Option.{some}
+use mathlib.Core.Path.{_≡_, refl, sym, ap, _∙_}
+use mathlib.Core.Option.{Option, some}
 use mathlib.Core.List.{List, map}
-use Prim.Native.Nat.{ℕ}
-use native.Mathlib.Omega.{arith}
+use Prim.Native.Nat.{ℕ, _≤_}
 use lib.Dec.{ltb}
 use lib.ListN.{length}
-use Rattle.format.specs.Write.{Outcome, writing}
-use Rattle.frames.specs.Frames.{Frame, framesIn}
-use Rattle.frames.specs.Append.{storeMost}
+use borrow.Author.Tests.{ltb-false}
+use Rattle.format.specs.Write.{Outcome, over, writing, writes}
+use Rattle.frames.specs.Frames.{Frame, framesIn, held}
 use Rattle.frames.specs.Calls.{frameOf, adds, Accepted, SameCalls, any-order-accepted, any-order-frames}
 use Rattle.frames.specs.declared.SectionId.{SectionId}
 use Rattle.module.specs.Module.{moduleOf, module-same}
-use Rattle.module.specs.Finish.{finishing, written, refused, orderMost, orderIds, allAmong}
+use Rattle.module.specs.Finish.{finishing, zero-exactly, accepts}
 
 -- finishing depends on a store by its length, the room used and the frames alone
 same-finish : (r q : ℕ) (xs ys : List ℕ) (fs gs : List Frame) → r ≡ q → length xs ≡ length ys → framesIn r xs ≡ some fs → framesIn q ys ≡ some gs
@@ -25,19 +23,14 @@ same-finish r q xs ys fs gs d e f g order count m out = rw (f, g, m, e, d)
 
 accepted-is : (used : ℕ) (xs order : List ℕ) (count : ℕ) (out : List ℕ) (fs : List Frame) → framesIn used xs ≡ some fs → finishing used xs order count out .number ≡ 0
     → finishing used xs order count out ≡ writing (moduleOf order count fs) out
-unfolding finishing
 accepted-is used xs order count out fs f z =
-    let w : written order count out (framesIn used xs) ≡ writing (moduleOf order count fs) out = ap (written order count out) f in
-    go (ltb storeMost (length xs)) (ltb (length xs) used) (ltb orderMost (length order)) (allAmong orderIds order) w z
-  where
-    go : (a b c d : Bool) {o : Outcome} → o ≡ writing (moduleOf order count fs) out
-        → cond a (refused out 1) (cond b (refused out 1) (cond c (refused out 8) (cond d o (refused out 8)))) .number ≡ 0
-        → cond a (refused out 1) (cond b (refused out 1) (cond c (refused out 8) (cond d o (refused out 8)))) ≡ writing (moduleOf order count fs) out
-    go true b c d w z = absurd (omega arith)
-    go false true c d w z = absurd (omega arith)
-    go false false true d w z = absurd (omega arith)
-    go false false false false w z = absurd (omega arith)
-    go false false false true w z = w
+    let h = zero-exactly used xs order count out .0 z in
+    let m = moduleOf order count fs in
+    let e : moduleOf order count (held (framesIn used xs)) ≡ m = ap (λ (o : Option (List Frame)). moduleOf order count (held o)) f in
+    let room : length m ≤ length out = ltb-false (length out) (length m) (ap (λ (l : List ℕ). ltb (length out) (length l)) (sym e) ∙ h .1 .1 .1 .0) in
+    sym (accepts used xs order count out h)
+    ∙ ap (λ (l : List ℕ). record { number = 0; value = length l; memory = over l out }) e
+    ∙ writes {b = m} {xs = out} room refl refl .right
 
 module _ (Call : Type 0) (sec : Call → SectionId) (why : Call → ℕ) (item : Call → List ℕ) where
   -- adds on a fresh store, and then finishing

@@ -1,6 +1,8 @@
 -- `frames::append` meets its contract: head and item are written into the rest of the store, one behind the other. Assumes nothing.
 use denote.Ref.{now}
-use mathlib.Core.Path.{refl}
+use mathlib.Core.Path.{ap, _∙_}
+use mathlib.Core.List.{List}
+use Prim.Native.Nat.{ℕ, _+_}
 use native.Mathlib.Omega.{arith}
 use lib.ListN.{length}
 use Rattle.format.specs.Write.{Writes, todo-two}
@@ -28,8 +30,10 @@ returns-5 c =
     let p = c .before .before .before .before .before .before .before .before .before in
     let room = p .if4 .left in
     let head : Writes (headBytes (idOf (a .section)) (length (now (a .item)))) _ _ _ = rw (c .before .before .before .before .before .before .before .before .id .ensures) at (c .before .before .before .before .before .before .put-head .ensures) in
-    fits (a .state .used) (now (a .store)) (a .section) (now (a .item)) (p .before .before .before .if1 .left) (p .before .before .if2 .left) (p .before .if3 .left) room refl
-    (todo-two (a .state .used) (headBytes (idOf (a .section)) (length (now (a .item)))) (now (a .item)) (now (a .store)) (omega arith) head (c .before .before .copy .ensures))
+    let at = a .state .used in
+    ap (λ (ys : List ℕ). record { number = 0; used = at + length (now (a .item)) + 5; store = ys })
+    (todo-two at (headBytes (idOf (a .section)) (length (now (a .item)))) (now (a .item)) (now (a .store)) (omega arith) head (c .before .before .copy .ensures))
+    ∙ fits at (now (a .store)) (a .section) (now (a .item)) (p .before .before .before .if1 .left) (p .before .before .if2 .left) (p .before .if3 .left) room
 
 pub append-spec : {M : Type 1} → statement M
 append-spec =

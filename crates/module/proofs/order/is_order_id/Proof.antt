@@ -1,9 +1,9 @@
--- `module::is_order_id` meets its contract. Assumes nothing.
+-- `module::order::is_order_id` meets its contract. Assumes nothing.
 use mathlib.Core.Path.{_∙_}
-use Rattle.module.proofs.Order.{order-section}
+use Rattle.module.proofs.Looking.{order-section}
 use borrow.Author.Needs.{needs}
-use Rattle.module.proofs.is_order_id.Statement.{statement}
-use Rattle.module.proofs.is_order_id.Tie as tie
+use Rattle.module.proofs.order.is_order_id.Statement.{statement}
+use Rattle.module.proofs.order.is_order_id.Tie as tie
 
 returns : tie.Need-returns
 returns c = rw (c .if1 .taken)

@@ -1,12 +1,12 @@
--- `module::is_order` meets its contract: every id is looked at until one is not of the list. Assumes nothing.
+-- `module::order::is_order` meets its contract: every id is looked at until one is not of the list. Assumes nothing.
 use denote.Ref.{now}
 use native.Mathlib.Omega.{arith}
 use Prim.Native.Nat.{_-_}
 use lib.ListN.{length}
 use borrow.Author.Needs.{needs}
-use Rattle.module.proofs.Order.{Looked, looked-none, looked-more, looked-stop, looked-all}
-use Rattle.module.proofs.is_order.Statement.{statement}
-use Rattle.module.proofs.is_order.Tie as tie
+use Rattle.module.proofs.Looking.{Looked, looked-none, looked-more, looked-stop, looked-all}
+use Rattle.module.proofs.order.is_order.Statement.{statement}
+use Rattle.module.proofs.order.is_order.Tie as tie
 
 abbrev Inv-loop : tie.InvT-loop
 Inv-loop order i₀ i = Looked order i

@@ -1,0 +1,101 @@
+-- How far the copying of a section's items has come. Assumes nothing.
+use mathlib.Core.Path.{_≡_, refl, sym, ap, _∙_}
+use mathlib.Core.Bool.{false, true≢false}
+use mathlib.Core.Option.{Option, none, some, Option·none-ne-some}
+use mathlib.Core.List.{List, [], _∷_, _++_, append-nil}
+use Prim.Native.Nat.{ℕ, _+_, _-_, _≤_, _<_}
+use mathlib.Core.Logic.{⊎-elim}
+use native.Mathlib.Omega.{arith}
+use lib.ListN.{length, take, drop, length-append}
+use borrow.Rule.Slice.PartMut.{putMid, midOf}
+use Rattle.format.specs.Lists.{prints-append, prints-more}
+use Rattle.format.specs.Runs.{run}
+use Rattle.format.specs.Write.{Writes, Room, writes, writes-as, writes-then, room-then, fitted, told-length, fits-or}
+use Rattle.format.specs.declared.Written.{Written}
+use Rattle.format.specs.declared.Written.the-variants.{Length}
+use Rattle.frames.specs.Frames.{Frame, frame, noFrames, held}
+use Rattle.frames.specs.Place.{frameAt}
+use Rattle.frames.specs.Tally.{itemsOf, joined, itemBytes}
+use Rattle.frames.specs.declared.FrameAt.the-variants.{No}
+use Rattle.frames.proofs.Placing.{Begins}
+use Rattle.frames.proofs.Walking.{Walked, walk-none, walk-more, walk-rest, walk-stop, walk-done, items-append, items-one, items-other}
+
+-- nothing was written
+pub wrote-none : (xs : List ℕ) → Writes [] xs xs (Length 0)
+wrote-none xs = writes (omega arith) refl refl
+
+-- the items of section id among the frames before place `at` of s are written, n bytes; those of all frames have `total`
+pub record Copied (s : List ℕ) (id total : ℕ) (xs ys : List ℕ) (n at : ℕ) : Type 0 where
+  pub all : List Frame
+  pub is : run frame s ≡ some all
+  pub size : total ≡ length (joined (itemsOf id all))
+  pub room : total ≤ length xs
+  pub past : List Frame
+  pub walk : Walked s past at
+  pub done : Writes (joined (itemsOf id past)) xs ys (Length n)
+
+no-bytes : (l : List ℕ) → length l ≡ 0 → l ≡ []
+no-bytes [] e = refl
+no-bytes (x ∷ l) e = absurd (omega arith)
+
+some-of : (o : Option (List Frame)) → noFrames o ≡ false → (all : List Frame) × (o ≡ some all)
+some-of none e = absurd (true≢false e)
+some-of (some all) e = (all, refl)
+
+pub copied-none : (s : List ℕ) (id total : ℕ) (xs : List ℕ) → noFrames (run frame s) ≡ false → total ≡ length (itemBytes id s) → total ≤ length xs → Copied s id total xs xs 0 0
+copied-none s id total xs e l h =
+    let (all, q) = some-of (run frame s) e in
+    record { all = all; is = q; size = rw q at l; room = h; past = []; walk = walk-none s; done = wrote-none xs }
+
+module _ {s : List ℕ} {id total : ℕ} {xs ys : List ℕ} {n at : ℕ} (c : Copied s id total xs ys n at) where
+  -- what is written and what is to be written is all
+  left : {fs : List Frame} {p : ℕ} → Walked s fs p → (gs : List Frame) × (joined (itemsOf id (c .all)) ≡ joined (itemsOf id fs) ++ joined (itemsOf id gs))
+  left {fs} w = let (gs, e) = walk-rest w (c .all) (c .is) in (gs, ap (λ (l : List Frame). joined (itemsOf id l)) e ∙ rw (items-append id fs gs) (prints-append (λ l. l) (itemsOf id fs) (itemsOf id gs)))
+
+  bounded : {fs : List Frame} {p : ℕ} → Walked s fs p → length (joined (itemsOf id fs)) ≤ total
+  bounded {fs} w = let (gs, e) = left w in omega (arith, c .size, ap length e, length-append (joined (itemsOf id fs)) (joined (itemsOf id gs)))
+
+  pub copied-more : n < total → at < length s
+  copied-more h = ⊎-elim ended (λ k. k) (fits-or (length s) at)
+    where
+      ended : length s ≤ at → at < length s
+      ended k =
+          let e : c .past ≡ c .all = cc (walk-done (c .walk) k, c .is) in
+          let (m, _, _) = told-length (c .done) refl in
+          absurd (omega (arith, c .size, ap (λ (l : List Frame). length (joined (itemsOf id l))) e))
+
+  pub copied-stop : n < total → No ≡ frameAt s at → ⊥
+  copied-stop h e = Option·none-ne-some (c .all) (sym (walk-stop (c .walk) (copied-more h) e) ∙ c .is)
+
+  module _ (h : n < total) {i end : ℕ} (b : Begins s at i end) where
+    walk : Walked s (c .past ++ (b .here ∷ [])) end
+    walk = walk-more (c .walk) (copied-more h) b
+
+    copied : {zs : List ℕ} {m : ℕ} → Writes (joined (itemsOf id (c .past ++ (b .here ∷ [])))) xs zs (Length m) → Copied s id total xs zs m end
+    copied w = record { all = c .all; is = c .is; size = c .size; room = c .room; past = c .past ++ (b .here ∷ []); walk = walk; done = w }
+
+    pub copied-other : (i ≡ id → ⊥) → Copied s id total xs ys n end
+    copied-other q = copied (writes-as (ap joined (sym (items-other id (c .past) (b .here) (λ e. q (sym (b .is) ∙ e))))) (c .done))
+
+    module _ (q : i ≡ id) where
+      one : joined (itemsOf id (c .past ++ (b .here ∷ []))) ≡ joined (itemsOf id (c .past)) ++ b .here .item
+      one = ap joined (items-one id (c .past) (b .here) (b .is ∙ q)) ∙ prints-more (λ l. l) (itemsOf id (c .past)) (b .here .item)
+
+      pub copied-room : Room (b .here .item) ys n
+      copied-room = room-then (b .here .item) (c .done) (omega (arith, bounded walk, ap length one, c .room))
+
+      pub copied-item : {r : Written} {zs : List ℕ} → Writes (take (end - (at + 5)) (drop (at + 5) s)) (midOf n (length ys - n) ys) zs r
+          → Copied s id total xs (putMid n (length ys - n) ys zs) (n + (end - (at + 5))) end
+      copied-item {r} {zs} w =
+          let l : length (b .here .item) ≡ end - (at + 5) = omega (arith, b .long) in
+          let u = writes-then (c .done) (fitted (writes-as (sym (b .item)) w) (copied-room .room)) in
+          copied (rw (one, ← l) u)
+
+  pub copied-done : total ≤ n → Writes (itemBytes id s) xs ys (Length n)
+  copied-done h =
+      let (gs, e) = left (c .walk) in
+      let (m, _, _) = told-length (c .done) refl in
+      let z : joined (itemsOf id gs) ≡ [] = no-bytes (joined (itemsOf id gs)) (omega (arith, c .size, ap length e, length-append (joined (itemsOf id (c .past))) (joined (itemsOf id gs)))) in
+      let f : itemBytes id s ≡ joined (itemsOf id (c .past)) =
+      ap (λ (o : Option (List Frame)). joined (itemsOf id (held o))) (c .is) ∙ e ∙ ap (λ (l : List ℕ). joined (itemsOf id (c .past)) ++ l) z ∙ append-nil (joined (itemsOf id (c .past))) in
+      writes-as (sym f) (c .done)

@@ -1,0 +1,127 @@
+-- The sections of an order list, one after the other: how long they are, and how far their writing has come. Assumes nothing.
+use mathlib.Core.Path.{_≡_, refl, sym, ap, _∙_}
+use mathlib.Core.Bool.{Bool, true, false, cond, true≢false}
+use mathlib.Core.List.{List, [], _∷_, _++_, append-nil}
+use Prim.Native.Nat.{ℕ, zero, suc, _+_, _-_, _*_, _≤_, _<_}
+use native.Mathlib.Numerals.{add-one}
+use native.Mathlib.Omega.{arith}
+use lib.Dec.{eqb}
+use lib.ListN.{length, take, drop, getD, length-append, take-append-drop}
+use lib.Seq.{take-suc, take-all}
+use borrow.Author.Tests.{eqb-true}
+use borrow.Rule.Slice.PartMut.{putMid, midOf}
+use Rattle.format.specs.Lists.{prints, prints-append, prints-more}
+use Rattle.format.specs.Runs.{run}
+use Rattle.format.specs.Write.{Writes, Room, writes, writes-as, writes-then, room-then}
+use Rattle.format.specs.declared.Written.the-variants.{Length}
+use Rattle.leb128.specs.Leb.{uleb}
+use Rattle.frames.specs.Frames.{frame, framesOf, frames-ok, sections, among, among-each}
+use Rattle.frames.specs.Append.{storeMost}
+use Rattle.frames.specs.Tally.{itemsOf, itemBytes, tallyOf, no-items, count-at, total-at}
+use Rattle.module.specs.Module.{section, sectionOf, dataCount}
+use Rattle.module.specs.Finish.{orderIds, allAmong}
+
+-- ---- an id of an order list
+
+both : (t u : Bool) → cond t u false ≡ true → (t ≡ true) × (u ≡ true)
+both true u e = (refl, e)
+both false u e = absurd (true≢false (sym e))
+
+pub listed : (order : List ℕ) (j : ℕ) → allAmong orderIds order ≡ true → j < length order → among orderIds (getD order j 0) ≡ true
+listed [] j e h = absurd (omega arith)
+listed (i ∷ order) zero e h = both (among orderIds i) (allAmong orderIds order) e .0
+listed (i ∷ order) (suc j) e h = listed order j (both (among orderIds i) (allAmong orderIds order) e .1) (omega arith)
+
+-- it is below 16
+pub listed-below : (i : ℕ) → among orderIds i ≡ true → i < 16
+listed-below i e = among-each (λ k. k < 16) orderIds i (omega arith, (omega arith, (omega arith, (omega arith, (omega arith, (omega arith, tt)))))) e
+
+-- ---- what a section says
+
+-- the count that it says: how many items, or the data count
+abbrev said : ℕ → List ℕ → ℕ → ℕ
+said count s i = cond (eqb i dataCount) count (length (itemsOf i (framesOf s)))
+
+pub section-said : (count : ℕ) (s : List ℕ) (i : ℕ) → sectionOf count (framesOf s) i ≡ section i (uleb (said count s i) ++ itemBytes i s)
+section-said count s i = go (eqb i dataCount) refl
+  where
+    go : (t : Bool) → eqb i dataCount ≡ t → sectionOf count (framesOf s) i ≡ section i (uleb (said count s i) ++ itemBytes i s)
+    go true e =
+        let z : itemsOf i (framesOf s) ≡ [] = no-items i (ap (among sections) (eqb-true i dataCount e)) (framesOf s) (frames-ok s) in
+        rw (e, z, append-nil)
+    go false e = rw e
+
+-- and how a tally tells it
+module _ (s : List ℕ) (i : ℕ) (h : i < 16) where
+  pub total-is : {totals : List ℕ} → totals ≡ tallyOf (run frame s) .totals → getD totals i 0 ≡ length (itemBytes i s)
+  total-is e = ap (λ (l : List ℕ). getD l i 0) e ∙ total-at s i h
+
+  pub section-is : {counts : List ℕ} → counts ≡ tallyOf (run frame s) .counts → (count : ℕ) {c : ℕ} → c ≡ cond (eqb i dataCount) count (getD counts i 0)
+      → section i (uleb c ++ itemBytes i s) ≡ sectionOf count (framesOf s) i
+  section-is e count {c} d =
+      let w : c ≡ said count s i = d ∙ ap (λ (x : ℕ). cond (eqb i dataCount) count x) (ap (λ (l : List ℕ). getD l i 0) e ∙ count-at s i h) in
+      ap (λ (x : ℕ). section i (uleb x ++ itemBytes i s)) w ∙ sym (section-said count s i)
+
+-- ---- one section more
+
+module _ (f : ℕ → List ℕ) (order : List ℕ) (j : ℕ) (h : j < length order) where
+  more : prints f (take (j + 1) order) ≡ prints f (take j order) ++ f (getD order j 0)
+  more = rw (add-one j) (ap (prints f) (take-suc order j 0 h) ∙ prints-more f (take j order) (getD order j 0))
+
+  bounded : length (prints f (take j order) ++ f (getD order j 0)) ≤ length (prints f order)
+  bounded =
+      let r = drop (j + 1) order in
+      let e : prints f (take (j + 1) order) ++ prints f r ≡ prints f order = sym (prints-append f (take (j + 1) order) r) ∙ ap (prints f) (take-append-drop (j + 1) order) in
+      omega (arith, ap length e, length-append (prints f (take (j + 1) order)) (prints f r), ap length more)
+
+-- ---- their length
+
+-- the first j of them have n bytes
+pub record Measured (order : List ℕ) (count : ℕ) (counts totals : List ℕ) (n j : ℕ) : Type 0 where
+  pub sum : (s : List ℕ) → counts ≡ tallyOf (run frame s) .counts → totals ≡ tallyOf (run frame s) .totals
+      → n ≡ length (prints (sectionOf count (framesOf s)) (take j order))
+  pub few : n ≤ j * (storeMost + 21)
+
+pub measured-none : (order : List ℕ) (count : ℕ) (counts totals : List ℕ) → Measured order count counts totals 0 0
+measured-none order count counts totals = record { sum = λ s p q. refl; few = omega arith }
+
+module _ {order : List ℕ} {count : ℕ} {counts totals : List ℕ} {n j : ℕ} (m : Measured order count counts totals n j) where
+  pub measured-more : (h : j < length order) (a : allAmong orderIds order ≡ true) {c r : ℕ} → c ≡ cond (eqb (getD order j 0) dataCount) count (getD counts (getD order j 0) 0)
+      → ((i : ℕ) (items : List ℕ) → length items ≡ getD totals (getD order j 0) 0 → r ≡ length (section i (uleb c ++ items))) → r ≤ storeMost + 21
+      → Measured order count counts totals (n + r) (j + 1)
+  measured-more h a {c} {r} d l k = record { sum = sum; few = omega (arith, m .few) }
+    where
+      sum : (s : List ℕ) → counts ≡ tallyOf (run frame s) .counts → totals ≡ tallyOf (run frame s) .totals
+          → n + r ≡ length (prints (sectionOf count (framesOf s)) (take (j + 1) order))
+      sum s p q =
+          let i = getD order j 0 in
+          let b = listed-below i (listed order j a h) in
+          let f = sectionOf count (framesOf s) in
+          let u : r ≡ length (f i) = l i (itemBytes i s) (sym (total-is s i b q)) ∙ ap length (section-is s i b p count d) in
+          omega (arith, m .sum s p q, ap length (more f order j h), length-append (prints f (take j order)) (f i))
+
+  pub measured-all : length order ≤ j → (s : List ℕ) → counts ≡ tallyOf (run frame s) .counts → totals ≡ tallyOf (run frame s) .totals
+      → n ≡ length (prints (sectionOf count (framesOf s)) order)
+  measured-all h s p q = m .sum s p q ∙ ap (λ (l : List ℕ). length (prints (sectionOf count (framesOf s)) l)) (take-all j order h)
+
+-- ---- their writing
+
+-- the first j of them are written, n bytes
+pub record Put (order : List ℕ) (count : ℕ) (s xs ys : List ℕ) (n j : ℕ) : Type 0 where
+  pub done : Writes (prints (sectionOf count (framesOf s)) (take j order)) xs ys (Length n)
+
+pub put-none : (order : List ℕ) (count : ℕ) (s xs : List ℕ) → Put order count s xs xs 0 0
+put-none order count s xs = record { done = writes (omega arith) refl refl }
+
+module _ {order : List ℕ} {count : ℕ} {s xs ys : List ℕ} {n j : ℕ} (p : Put order count s xs ys n j) where
+  pub put-room : j < length order → length (prints (sectionOf count (framesOf s)) order) ≤ length xs → Room (sectionOf count (framesOf s) (getD order j 0)) ys n
+  put-room h k =
+      let f = sectionOf count (framesOf s) in
+      room-then (f (getD order j 0)) (p .done) (omega (arith, bounded f order j h))
+
+  pub put-more : j < length order → {zs : List ℕ} {m : ℕ} → Writes (sectionOf count (framesOf s) (getD order j 0)) (midOf n (length ys - n) ys) zs (Length m)
+      → Put order count s xs (putMid n (length ys - n) ys zs) (n + m) (j + 1)
+  put-more h w = record { done = writes-as (sym (more (sectionOf count (framesOf s)) order j h)) (writes-then (p .done) w) }
+
+  pub put-all : length order ≤ j → Writes (prints (sectionOf count (framesOf s)) order) xs ys (Length n)
+  put-all h = writes-as (ap (prints (sectionOf count (framesOf s))) (take-all j order h)) (p .done)

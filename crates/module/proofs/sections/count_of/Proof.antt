@@ -1,0 +1,13 @@
+-- `module::sections::count_of` meets its contract. Assumes nothing.
+use borrow.Author.Tests.{ne-eqb}
+use Rattle.module.proofs.sections.count_of.Statement.{statement}
+use Rattle.module.proofs.sections.count_of.Tie as tie
+
+returns : tie.Need-returns
+returns c = rw (c .if1 .taken)
+
+returns-2 : tie.Need-returns-2
+returns-2 c = rw (ne-eqb (c .before .args .id) 12 (c .if1 .left))
+
+pub count-of-spec : {M : Type 1} → statement M
+count-of-spec = tie.close (tie.spec returns returns-2)

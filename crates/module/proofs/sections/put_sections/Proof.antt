@@ -1,0 +1,112 @@
+-- `module::sections::put_sections` meets its contract: one section behind the other. Assumes nothing.
+use denote.Ref.{now}
+use mathlib.Core.Path.{_≡_, ap}
+use mathlib.Core.List.{List, _++_}
+use native.Mathlib.Omega.{arith}
+use Prim.Native.Nat.{ℕ, _+_, _-_, _<_, _^_}
+use lib.ListN.{length, getD}
+use borrow.Author.Needs.{needs}
+use Rattle.format.specs.Write.{Room, writes-as, within, same-long}
+use Rattle.leb128.specs.Leb.{uleb}
+use Rattle.frames.specs.Frames.{framesOf}
+use Rattle.frames.specs.Tally.{itemBytes, bytes-few}
+use Rattle.frames.specs.declared.Tallies.{Tallies}
+use Rattle.module.specs.Module.{sectionOf, section}
+use Rattle.module.proofs.Listed.{listed, listed-below, total-is, section-is, Put, put-none, put-room, put-more, put-all}
+use Rattle.module.proofs.sections.put_sections.Statement.{statement}
+use Rattle.module.proofs.sections.put_sections.Tie as tie
+
+abbrev Inv-loop : tie.InvT-loop
+Inv-loop frames order count out₀ counts totals n₀ j₀ out n j = Put order count frames out₀ out n j
+
+abbrev μ-loop : tie.MeasureT-loop
+μ-loop frames order count out₀ counts totals n₀ j₀ out n j = length order - j
+
+loop-holds : tie.Need-loop-holds Inv-loop μ-loop
+loop-holds c = put-none _ _ _ _
+
+-- the id is below 16
+below : (c : tie.After-shared-slice-known3 Inv-loop μ-loop) → getD (now (c .before .before .before .before .before .before .before .before .args .order)) (c .before .before .loop .j) 0 < 16
+below c = listed-below _ (listed (now (c .before .before .before .before .before .before .before .before .args .order)) (c .before .before .loop .j) (c .before .before .before .before .before .before .before .before .pre .0) (c .before .loop-test .taken))
+
+cast-i : tie.Need-cast-i Inv-loop μ-loop
+cast-i c = omega (arith, below c)
+
+mul-count-of : tie.Need-mul-count-of Inv-loop μ-loop
+mul-count-of c = omega (arith, below c)
+
+array-read-count-of : tie.Need-array-read-count-of Inv-loop μ-loop
+array-read-count-of c = below c
+
+mul-put-section : tie.Need-mul-put-section Inv-loop μ-loop
+mul-put-section c = omega (arith, below (c .before))
+
+array-read-put-section : tie.Need-array-read-put-section Inv-loop μ-loop
+array-read-put-section c = below (c .before)
+
+-- the section that is next
+next : (c : tie.After-count-of Inv-loop μ-loop) → _≡_ {A = List ℕ}
+    (section (getD (now (c .before .before .before .before .before .before .before .before .before .args .order)) (c .before .before .before .loop .j) 0) (uleb (c .count-of .result) ++ itemBytes (getD (now (c .before .before .before .before .before .before .before .before .before .args .order)) (c .before .before .before .loop .j) 0) (now (c .before .before .before .before .before .before .before .before .before .args .frames))))
+    (sectionOf (c .before .before .before .before .before .before .before .before .before .args .count) (framesOf (now (c .before .before .before .before .before .before .before .before .before .args .frames))) (getD (now (c .before .before .before .before .before .before .before .before .before .args .order)) (c .before .before .before .loop .j) 0))
+next c = section-is (now (c .before .before .before .before .before .before .before .before .before .args .frames)) _ (below (c .before)) (ap (λ (t : Tallies). t .counts) (c .before .before .before .before .before .before .before .before .before .pre .1 .0 .0)) (c .before .before .before .before .before .before .before .before .before .args .count) (c .count-of .ensures)
+
+left : (c : tie.After-count-of Inv-loop μ-loop)
+    → Room (sectionOf (c .before .before .before .before .before .before .before .before .before .args .count) (framesOf (now (c .before .before .before .before .before .before .before .before .before .args .frames))) (getD (now (c .before .before .before .before .before .before .before .before .before .args .order)) (c .before .before .before .loop .j) 0)) (c .before .before .before .loop .out) (c .before .before .before .loop .n)
+left c = put-room (c .before .before .before .loop .inv) (c .before .before .loop-test .taken) (c .before .before .before .before .before .before .before .before .before .pre .1 .1 .1)
+
+sub-put-section : tie.Need-sub-put-section Inv-loop μ-loop
+sub-put-section c = left c .start
+
+part-put-section-start : tie.Need-part-put-section-start Inv-loop μ-loop
+part-put-section-start c = left c .start
+
+put-section-requires : tie.Need-put-section-requires Inv-loop μ-loop
+put-section-requires c κs =
+    let s = c .before .before .before .before .before .before .before .before .before .before in
+    let i = getD (now (s .args .order)) (c .before .before .before .before .loop .j) 0 in
+    let total = total-is (now (s .args .frames)) i (below (c .before .before)) (ap (λ (t : Tallies). t .totals) (s .pre .1 .0 .0)) in
+    (s .pre .1 .0 .1, ((total, omega (arith, total, bytes-few i (now (s .args .frames)), s .pre .1 .1 .0)), omega (arith, ap length (next (c .before)), left (c .before) .room)))
+
+-- and is written
+again : tie.Need-loop-again Inv-loop μ-loop
+again c = put-more (c .before .before .before .before .before .before .before .loop .inv) (c .before .before .before .before .before .before .loop-test .taken) (writes-as (next (c .before .before .before .before)) (c .before .before .put-section .ensures))
+
+out-fits : (c : tie.After-slice-known2 Inv-loop μ-loop) → length (now (c .before .before .before .before .before .before .before .before .before .before .before .before .before .args .out)) < 2 ^ 63
+out-fits c = search needs
+
+add-n : tie.Need-add-n Inv-loop μ-loop
+add-n c = omega (arith, within (again c .done), out-fits c)
+
+loop-again : tie.Need-loop-again Inv-loop μ-loop
+loop-again c = again c
+
+same-length : tie.Need-same-length Inv-loop μ-loop
+same-length c = same-long (c .before .loop .inv .done)
+
+returns : tie.Need-returns Inv-loop μ-loop
+returns c = put-all (c .before .loop .inv) (c .loop-test .left)
+
+pub put-sections-spec : {M : Type 1} → statement M
+put-sections-spec =
+    tie.close
+    (tie.spec
+    Inv-loop
+    μ-loop
+    loop-holds
+    (λ c. search needs)
+    cast-i
+    mul-count-of
+    array-read-count-of
+    (λ c κs. search needs)
+    mul-put-section
+    array-read-put-section
+    sub-put-section
+    part-put-section-start
+    (λ c. search needs)
+    put-section-requires
+    add-n
+    (λ c. search needs)
+    (λ c. search needs)
+    loop-again
+    same-length
+    returns)
