@@ -120,9 +120,9 @@ pub fn put_sections(frames: &[u8], order: &[u8], t: Tallies, count: u32, out: &m
     let counts = t.counts;
     let totals = t.totals;
     let mut n: usize = 0;
-    let mut j: usize = 0;
-    while j < order.len() {
-        let id = order[j];
+    let mut k: usize = 0;
+    while k < order.len() {
+        let id = order[k];
         let i = id as usize;
         n += put_section(
             frames,
@@ -131,7 +131,7 @@ pub fn put_sections(frames: &[u8], order: &[u8], t: Tallies, count: u32, out: &m
             totals[i],
             &mut out[n..],
         );
-        j += 1;
+        k += 1;
     }
     n
 }

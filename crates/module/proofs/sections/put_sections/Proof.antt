@@ -17,17 +17,17 @@ use Rattle.module.proofs.sections.put_sections.Statement.{statement}
 use Rattle.module.proofs.sections.put_sections.Tie as tie
 
 abbrev Inv-loop : tie.InvT-loop
-Inv-loop frames order count out₀ counts totals n₀ j₀ out n j = Put order count frames out₀ out n j
+Inv-loop frames order count out₀ counts totals n₀ k₀ out n k = Put order count frames out₀ out n k
 
 abbrev μ-loop : tie.MeasureT-loop
-μ-loop frames order count out₀ counts totals n₀ j₀ out n j = length order - j
+μ-loop frames order count out₀ counts totals n₀ k₀ out n k = length order - k
 
 loop-holds : tie.Need-loop-holds Inv-loop μ-loop
 loop-holds c = put-none _ _ _ _
 
 -- the id is below 16
-below : (c : tie.After-shared-slice-known3 Inv-loop μ-loop) → getD (now (c .before .before .before .before .before .before .before .before .args .order)) (c .before .before .loop .j) 0 < 16
-below c = listed-below _ (listed (now (c .before .before .before .before .before .before .before .before .args .order)) (c .before .before .loop .j) (c .before .before .before .before .before .before .before .before .pre .0) (c .before .loop-test .taken))
+below : (c : tie.After-shared-slice-known3 Inv-loop μ-loop) → getD (now (c .before .before .before .before .before .before .before .before .args .order)) (c .before .before .loop .k) 0 < 16
+below c = listed-below _ (listed (now (c .before .before .before .before .before .before .before .before .args .order)) (c .before .before .loop .k) (c .before .before .before .before .before .before .before .before .pre .0) (omega (arith, c .before .loop-test .taken)))
 
 cast-i : tie.Need-cast-i Inv-loop μ-loop
 cast-i c = omega (arith, below c)
@@ -46,13 +46,13 @@ array-read-put-section c = below (c .before)
 
 -- the section that is next
 next : (c : tie.After-count-of Inv-loop μ-loop) → _≡_ {A = List ℕ}
-    (section (getD (now (c .before .before .before .before .before .before .before .before .before .args .order)) (c .before .before .before .loop .j) 0) (uleb (c .count-of .result) ++ itemBytes (getD (now (c .before .before .before .before .before .before .before .before .before .args .order)) (c .before .before .before .loop .j) 0) (now (c .before .before .before .before .before .before .before .before .before .args .frames))))
-    (sectionOf (c .before .before .before .before .before .before .before .before .before .args .count) (framesOf (now (c .before .before .before .before .before .before .before .before .before .args .frames))) (getD (now (c .before .before .before .before .before .before .before .before .before .args .order)) (c .before .before .before .loop .j) 0))
+    (section (getD (now (c .before .before .before .before .before .before .before .before .before .args .order)) (c .before .before .before .loop .k) 0) (uleb (c .count-of .result) ++ itemBytes (getD (now (c .before .before .before .before .before .before .before .before .before .args .order)) (c .before .before .before .loop .k) 0) (now (c .before .before .before .before .before .before .before .before .before .args .frames))))
+    (sectionOf (c .before .before .before .before .before .before .before .before .before .args .count) (framesOf (now (c .before .before .before .before .before .before .before .before .before .args .frames))) (getD (now (c .before .before .before .before .before .before .before .before .before .args .order)) (c .before .before .before .loop .k) 0))
 next c = section-is (now (c .before .before .before .before .before .before .before .before .before .args .frames)) _ (below (c .before)) (ap (λ (t : Tallies). t .counts) (c .before .before .before .before .before .before .before .before .before .pre .1 .0 .0)) (c .before .before .before .before .before .before .before .before .before .args .count) (c .count-of .ensures)
 
 left : (c : tie.After-count-of Inv-loop μ-loop)
-    → Room (sectionOf (c .before .before .before .before .before .before .before .before .before .args .count) (framesOf (now (c .before .before .before .before .before .before .before .before .before .args .frames))) (getD (now (c .before .before .before .before .before .before .before .before .before .args .order)) (c .before .before .before .loop .j) 0)) (c .before .before .before .loop .out) (c .before .before .before .loop .n)
-left c = put-room (c .before .before .before .loop .inv) (c .before .before .loop-test .taken) (c .before .before .before .before .before .before .before .before .before .pre .1 .1 .1)
+    → Room (sectionOf (c .before .before .before .before .before .before .before .before .before .args .count) (framesOf (now (c .before .before .before .before .before .before .before .before .before .args .frames))) (getD (now (c .before .before .before .before .before .before .before .before .before .args .order)) (c .before .before .before .loop .k) 0)) (c .before .before .before .loop .out) (c .before .before .before .loop .n)
+left c = put-room (c .before .before .before .loop .inv) (omega (arith, c .before .before .loop-test .taken)) (c .before .before .before .before .before .before .before .before .before .pre .1 .1 .1)
 
 sub-put-section : tie.Need-sub-put-section Inv-loop μ-loop
 sub-put-section c = left c .start
@@ -63,13 +63,13 @@ part-put-section-start c = left c .start
 put-section-requires : tie.Need-put-section-requires Inv-loop μ-loop
 put-section-requires c κs =
     let s = c .before .before .before .before .before .before .before .before .before .before in
-    let i = getD (now (s .args .order)) (c .before .before .before .before .loop .j) 0 in
+    let i = getD (now (s .args .order)) (c .before .before .before .before .loop .k) 0 in
     let total = total-is (now (s .args .frames)) i (below (c .before .before)) (ap (λ (t : Tallies). t .totals) (s .pre .1 .0 .0)) in
     (s .pre .1 .0 .1, ((total, omega (arith, total, bytes-few i (now (s .args .frames)), s .pre .1 .1 .0)), omega (arith, ap length (next (c .before)), left (c .before) .room)))
 
 -- and is written
 again : tie.Need-loop-again Inv-loop μ-loop
-again c = put-more (c .before .before .before .before .before .before .before .loop .inv) (c .before .before .before .before .before .before .loop-test .taken) (writes-as (next (c .before .before .before .before)) (c .before .before .put-section .ensures))
+again c = put-more (c .before .before .before .before .before .before .before .loop .inv) (omega (arith, c .before .before .before .before .before .before .loop-test .taken)) (writes-as (next (c .before .before .before .before)) (c .before .before .put-section .ensures))
 
 out-fits : (c : tie.After-slice-known2 Inv-loop μ-loop) → length (now (c .before .before .before .before .before .before .before .before .before .before .before .before .before .args .out)) < 2 ^ 63
 out-fits c = search needs
@@ -84,7 +84,7 @@ same-length : tie.Need-same-length Inv-loop μ-loop
 same-length c = same-long (c .before .loop .inv .done)
 
 returns : tie.Need-returns Inv-loop μ-loop
-returns c = put-all (c .before .loop .inv) (c .loop-test .left)
+returns c = put-all (c .before .loop .inv) (omega (arith, c .loop-test .left))
 
 pub put-sections-spec : {M : Type 1} → statement M
 put-sections-spec =
