@@ -1,7 +1,11 @@
 // The checked examples of document 01: each is written, shown in hexadecimal and read back, and the file stdout has what the document says.
 // specs/Examples.antt proves those marked P.
 use format::Written;
+use frames::Appended;
+use frames::SectionId;
+use frames::State;
 use libc::STDOUT_FILENO;
+use module::Finished;
 use numbers::ReadI32;
 use numbers::ReadI64;
 use numbers::ReadU64;
@@ -106,6 +110,85 @@ fn short() {
     say(b"\n");
 }
 
+// What an append answered, in words.
+fn show_appended(a: Appended) {
+    match a {
+        Appended::To(_) => {
+            say(b" accepted\n");
+        }
+        Appended::Over => {
+            say(b" refused, 1\n");
+        }
+        Appended::Large => {
+            say(b" refused, 6\n");
+        }
+        Appended::Full => {
+            say(b" refused, 7\n");
+        }
+    }
+}
+
+fn show_finished(f: Finished, out: &[u8]) {
+    match f {
+        Finished::Length(n) => {
+            show(out, n);
+            say(b"\n");
+        }
+        Finished::Over => {
+            say(b" refused, 1\n");
+        }
+        Finished::Order => {
+            say(b" refused, 8\n");
+        }
+        Finished::NoFrames => {
+            say(b" refused, 9\n");
+        }
+        Finished::Short => {
+            say(b" refused, 10\n");
+        }
+    }
+}
+
+// The data count section, and the data.
+fn show_module(state: State, store: &[u8], out: &mut [u8]) {
+    let order = [12, 11];
+    show_finished(module::finish(state, store, &order, 1, out), out);
+}
+
+// The module part of the whole case: a passive data item, the byte 41; and the same with one byte of output too few.
+fn whole_case() {
+    let mut store = [0u8; 32];
+    let mut out = [0u8; 17];
+    let mut less = [0u8; 16];
+    let item = [0x01, 0x01, 0x41];
+    let Appended::To(state) = frames::append(State::new(), &mut store, SectionId::Data, &item)
+    else {
+        say(b"not appended\n");
+        return;
+    };
+    say(b"data count and data, a passive item:");
+    show_module(state, &store, &mut out);
+    say(b"into one byte less:");
+    show_module(state, &store, &mut less);
+}
+
+fn empty_order() {
+    let store = [0u8; 0];
+    let mut out = [0u8; 8];
+    say(b"empty order:");
+    show_finished(module::finish(State::new(), &store, &[], 0, &mut out), &out);
+}
+
+// A frame that fills the store exactly, and one that would by a byte not fit.
+fn full_store() {
+    let mut store = [0u8; 8];
+    let item = [0x01, 0x01, 0x41];
+    say(b"an item of 3 bytes into a store of 8:");
+    show_appended(frames::append(State::new(), &mut store, SectionId::Data, &item));
+    say(b"into a store of 7:");
+    show_appended(frames::append(State::new(), &mut store[0..7], SectionId::Data, &item));
+}
+
 fn main() {
     unsigned(b"unsigned 127:", 127);
     unsigned(b"unsigned 128:", 128);
@@ -119,4 +202,7 @@ fn main() {
     signed(b"signed -123456:", -123456);
     fault();
     short();
+    whole_case();
+    empty_order();
+    full_store();
 }
