@@ -1,5 +1,10 @@
-// What the programs of bench/ link: each function under a name of C's, 0 standing for a refusal. Nothing else uses these.
+// What the programs of bench/ and oracle/calls link: each function under a name of C's. Those of numbers answer 0 for a refusal, the others a number of
+// document 01. Nothing else uses these.
 use format::Written;
+use frames::Appended;
+use frames::SectionId;
+use frames::State;
+use module::Finished;
 use numbers::ReadI32;
 use numbers::ReadI64;
 use numbers::ReadU32;
@@ -66,4 +71,61 @@ pub extern "C" fn thriftbell_decode_i64(s: &[u8], at: usize, value: &mut i64) ->
     };
     *value = v;
     end
+}
+
+// 11 where it is no other.
+fn section(id: u8) -> SectionId {
+    if id == 1 {
+        return SectionId::Types;
+    }
+    if id == 2 {
+        return SectionId::Imports;
+    }
+    if id == 4 {
+        return SectionId::Tables;
+    }
+    if id == 9 {
+        return SectionId::Elements;
+    }
+    SectionId::Data
+}
+
+#[no_mangle]
+pub extern "C" fn thriftbell_append(
+    used: &mut usize,
+    store: &mut [u8],
+    id: u8,
+    item: &[u8],
+) -> u32 {
+    match frames::append(State { used: *used }, store, section(id), item) {
+        Appended::To(state) => {
+            *used = state.used;
+            0
+        }
+        Appended::Over => 1,
+        Appended::Large => 6,
+        Appended::Full => 7,
+    }
+}
+
+#[no_mangle]
+pub extern "C" fn thriftbell_finish(
+    used: usize,
+    store: &[u8],
+    order: &[u8],
+    count: u32,
+    out: &mut [u8],
+    length: &mut usize,
+) -> u32 {
+    *length = 0;
+    match module::finish(State { used: used }, store, order, count, out) {
+        Finished::Length(n) => {
+            *length = n;
+            0
+        }
+        Finished::Over => 1,
+        Finished::Order => 8,
+        Finished::NoFrames => 9,
+        Finished::Short => 10,
+    }
 }

@@ -65,10 +65,10 @@ items-few i (f ∷ fs) = go (eqb (f .id) i) (items-few i fs)
     go true h = omega (arith, n, length-append (f .item) (joined (itemsOf i fs)))
     go false h = omega (arith, n)
 
-pub bytes-few : (i : ℕ) (s : List ℕ) → length (itemBytes i s) ≤ length s
-bytes-few i s = go (run frame s) refl
+pub items-within : (i : ℕ) (s : List ℕ) → length (itemsOf i (framesOf s)) + length (itemBytes i s) ≤ length s
+items-within i s = go (run frame s) refl
   where
-    go : (o : Option (List Frame)) → run frame s ≡ o → length (joined (itemsOf i (held o))) ≤ length s
+    go : (o : Option (List Frame)) → run frame s ≡ o → length (itemsOf i (held o)) + length (joined (itemsOf i (held o))) ≤ length s
     go none e = omega arith
     go (some fs) e = omega (arith, items-few i fs, ap length (run-only frame s fs e .1))
 

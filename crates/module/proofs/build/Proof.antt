@@ -15,7 +15,7 @@ use Rattle.format.specs.Write.{Writes, Room, writes-as, writes-then, room-then,
 use Rattle.format.specs.declared.Written.the-variants.{Length}
 use Rattle.frames.specs.Frames.{frame, framesOf, noFrames}
 use Rattle.frames.specs.Append.{storeMost}
-use Rattle.frames.specs.Tally.{bytes-few}
+use Rattle.frames.specs.Tally.{items-within}
 use Rattle.frames.specs.declared.Tallies.{Tallies}
 use Rattle.module.specs.Module.{header, sectionOf}
 use Rattle.module.proofs.Listed.{total-is}
@@ -31,7 +31,7 @@ returns c =
 sections-len-requires : tie.Need-sections-len-requires
 sections-len-requires c κs =
     let s = c .before .before .before .before .before .before in
-    let few : (i : ℕ) → i < 16 → getD (c .before .before .tally .result .totals) i 0 ≤ storeMost = λ i h. omega (arith, total-is (now (s .args .frames)) i h (ap (λ (t : Tallies). t .totals) (c .before .before .tally .ensures)), bytes-few i (now (s .args .frames)), s .pre .1 .1) in
+    let few : (i : ℕ) → i < 16 → getD (c .before .before .tally .result .totals) i 0 ≤ storeMost = λ i h. omega (arith, total-is (now (s .args .frames)) i h (ap (λ (t : Tallies). t .totals) (c .before .before .tally .ensures)), items-within i (now (s .args .frames)), s .pre .1 .1) in
     (s .pre .0, (s .pre .1 .0, few))
 
 -- there are frames, and the module is as long

@@ -9,7 +9,7 @@ use borrow.Author.Needs.{needs}
 use Rattle.format.specs.Write.{Room, writes-as, within, same-long}
 use Rattle.leb128.specs.Leb.{uleb}
 use Rattle.frames.specs.Frames.{framesOf}
-use Rattle.frames.specs.Tally.{itemBytes, bytes-few}
+use Rattle.frames.specs.Tally.{itemBytes, items-within}
 use Rattle.frames.specs.declared.Tallies.{Tallies}
 use Rattle.module.specs.Module.{sectionOf, section}
 use Rattle.module.proofs.Listed.{listed, listed-below, total-is, section-is, Put, put-none, put-room, put-more, put-all}
@@ -65,7 +65,7 @@ put-section-requires c κs =
     let s = c .before .before .before .before .before .before .before .before .before .before in
     let i = getD (now (s .args .order)) (c .before .before .before .before .loop .k) 0 in
     let total = total-is (now (s .args .frames)) i (below (c .before .before)) (ap (λ (t : Tallies). t .totals) (s .pre .1 .0 .0)) in
-    (s .pre .1 .0 .1, ((total, omega (arith, total, bytes-few i (now (s .args .frames)), s .pre .1 .1 .0)), omega (arith, ap length (next (c .before)), left (c .before) .room)))
+    (s .pre .1 .0 .1, ((total, omega (arith, total, items-within i (now (s .args .frames)), s .pre .1 .1 .0)), omega (arith, ap length (next (c .before)), left (c .before) .room)))
 
 -- and is written
 again : tie.Need-loop-again Inv-loop μ-loop
