@@ -22,27 +22,17 @@ abbrev pub has : ℕ → List (ℕ × Bool) → Bool
 has n [] = false
 has n (c ∷ cs) = cond (eqb (c .0) n) true (has n cs)
 
--- a number that is none of theirs is not given
-not-given : (n : ℕ) → (n ≡ 0 → ⊥) → (cs : List (ℕ × Bool)) → has n cs ≡ false → answer cs ≡ n → ⊥
-not-given n z [] h q = z (sym q)
-not-given n z (c ∷ cs) h q = go (c .1) (eqb (c .0) n) refl h q (not-given n z cs)
-  where
-    go : (t u : Bool) → eqb (c .0) n ≡ u → cond u true (has n cs) ≡ false → cond t (c .0) (answer cs) ≡ n → (has n cs ≡ false → answer cs ≡ n → ⊥) → ⊥
-    go t true e h q f = absurd (true≢false h)
-    go true false e h q f = eqb-false (c .0) n e q
-    go false false e h q f = f h q
-
--- a number is given exactly if its condition holds and none that is judged earlier
-pub given-exactly : (n : ℕ) (b : Bool) (earlier later : List (ℕ × Bool)) → (n ≡ 0 → ⊥) → has n earlier ≡ false → has n later ≡ false
+-- where no earlier condition is that of n, and no later one gives it instead of b
+given : (n : ℕ) (b : Bool) (later : List (ℕ × Bool)) → (b ≡ false → answer later ≡ n → ⊥) → (earlier : List (ℕ × Bool)) → has n earlier ≡ false
     → (answer (earlier ++ ((n, b) ∷ later)) ≡ n) ↔ (NoneHolds earlier × (b ≡ true))
-given-exactly n b earlier later z d e = (there earlier d, back earlier)
+given n b later e earlier d = (there earlier d, back earlier)
   where
-    here : (t : Bool) → cond t n (answer later) ≡ n → t ≡ true
-    here true q = refl
-    here false q = absurd (not-given n z later e q)
+    here : (t : Bool) → b ≡ t → cond t n (answer later) ≡ n → t ≡ true
+    here true p q = refl
+    here false p q = absurd (e p q)
 
     there : (cs : List (ℕ × Bool)) → has n cs ≡ false → answer (cs ++ ((n, b) ∷ later)) ≡ n → NoneHolds cs × (b ≡ true)
-    there [] h q = (tt, here b q)
+    there [] h q = (tt, here b refl q)
     there (c ∷ cs) h q = go (c .1) refl (eqb (c .0) n) refl h q (there cs)
       where
         go : (t : Bool) → c .1 ≡ t → (u : Bool) → eqb (c .0) n ≡ u → cond u true (has n cs) ≡ false → cond t (c .0) (answer (cs ++ ((n, b) ∷ later))) ≡ n
@@ -55,23 +45,25 @@ given-exactly n b earlier later z d e = (there earlier d, back earlier)
     back [] (h, q) = rw q
     back (c ∷ cs) (h, q) = rw (h .0) (back cs (h .1, q))
 
+-- a last condition that gives 0, or that does not hold, changes nothing
+answer-end : (c : ℕ × Bool) → answer (c ∷ []) ≡ 0 → (cs : List (ℕ × Bool)) → answer (cs ++ (c ∷ [])) ≡ answer cs
+answer-end c e [] = e
+answer-end c e (d ∷ cs) = ap (λ (n : ℕ). cond (d .1) (d .0) n) (answer-end c e cs)
+
 -- accepted exactly if no condition holds
 pub accepted-exactly : (cs : List (ℕ × Bool)) → has 0 cs ≡ false → (answer cs ≡ 0) ↔ NoneHolds cs
-accepted-exactly cs d = (there cs d, back cs)
-  where
-    there : (cs : List (ℕ × Bool)) → has 0 cs ≡ false → answer cs ≡ 0 → NoneHolds cs
-    there [] d e = tt
-    there (c ∷ cs) d e = go (c .1) refl (eqb (c .0) 0) refl d e (there cs)
-      where
-        go : (t : Bool) → c .1 ≡ t → (u : Bool) → eqb (c .0) 0 ≡ u → cond u true (has 0 cs) ≡ false → cond t (c .0) (answer cs) ≡ 0
-            → (has 0 cs ≡ false → answer cs ≡ 0 → NoneHolds cs) → (c .1 ≡ false) × NoneHolds cs
-        go t p true r h q f = absurd (true≢false h)
-        go true p false r h q f = absurd (eqb-false (c .0) 0 r q)
-        go false p false r h q f = (p, f h q)
+accepted-exactly cs d =
+    let g = given 0 true [] (λ e. absurd (true≢false e)) cs d in
+    (λ e. g .0 (answer-end (0, true) refl cs ∙ e) .0, λ h. sym (answer-end (0, true) refl cs) ∙ g .1 (h, refl))
 
-    back : (cs : List (ℕ × Bool)) → NoneHolds cs → answer cs ≡ 0
-    back [] h = refl
-    back (c ∷ cs) h = rw (h .0) (back cs (h .1))
+-- a number that is none of theirs is not given
+not-given : (n : ℕ) → (n ≡ 0 → ⊥) → (cs : List (ℕ × Bool)) → has n cs ≡ false → answer cs ≡ n → ⊥
+not-given n z cs h q = true≢false (sym (given n false [] (λ e r. z (sym r)) cs h .0 (answer-end (n, false) refl cs ∙ q) .1))
+
+-- a number is given exactly if its condition holds and none that is judged earlier
+pub given-exactly : (n : ℕ) (b : Bool) (earlier later : List (ℕ × Bool)) → (n ≡ 0 → ⊥) → has n earlier ≡ false → has n later ≡ false
+    → (answer (earlier ++ ((n, b) ∷ later)) ≡ n) ↔ (NoneHolds earlier × (b ≡ true))
+given-exactly n b earlier later z d e = given n b later (λ _. not-given n z later e) earlier d
 
 pub neither : (a b : Bool) → (a || b) ≡ false → (a ≡ false) × (b ≡ false)
 neither true b e = absurd (true≢false e)
