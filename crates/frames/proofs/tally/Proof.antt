@@ -39,44 +39,8 @@ returns : tie.Need-returns Inv-loop μ-loop
 unfolding table tallyOf
 returns c = tally-stop (c .before .before .before .before .loop .inv) (c .before .before .before .loop-test .taken) (sym (c .enum-told .given .1) ∙ c .before .before .frame-at .ensures)
 
-mul-counts : tie.Need-mul-counts Inv-loop μ-loop
-mul-counts c = omega (arith, below c)
-
-array-read-counts : tie.Need-array-read-counts Inv-loop μ-loop
-array-read-counts c = below c
-
-add-counts : tie.Need-add-counts Inv-loop μ-loop
-add-counts c = omega (arith, few c, found c .within, found c .long, slice-fits c)
-
-array-write-counts : tie.Need-array-write-counts Inv-loop μ-loop
-array-write-counts c = below c
-
-sub-totals : tie.Need-sub-totals Inv-loop μ-loop
-sub-totals c = omega (arith, found c .long)
-
-sub-totals-2 : tie.Need-sub-totals-2 Inv-loop μ-loop
-sub-totals-2 c = omega (arith, found c .long)
-
-mul-totals : tie.Need-mul-totals Inv-loop μ-loop
-mul-totals c = omega (arith, below c)
-
-array-read-totals : tie.Need-array-read-totals Inv-loop μ-loop
-array-read-totals c = below c
-
-add-totals : tie.Need-add-totals Inv-loop μ-loop
-add-totals c = omega (arith, few c, found c .within, found c .long, slice-fits c)
-
-array-write-totals : tie.Need-array-write-totals Inv-loop μ-loop
-array-write-totals c = below c
-
-loop-less : tie.Need-loop-less Inv-loop μ-loop
-loop-less c = omega (arith, found c .within, found c .long)
-
 loop-again : tie.Need-loop-again Inv-loop μ-loop
 loop-again c = tally-more (c .before .before .before .before .before .loop .inv) (c .before .before .before .before .loop-test .taken) (found c)
-
-returns-2 : tie.Need-returns-2 Inv-loop μ-loop
-returns-2 c = tally-done (c .before .loop .inv) (c .loop-test .left)
 
 pub tally-spec : {M : Type 1} → statement M
 tally-spec =
@@ -90,16 +54,16 @@ tally-spec =
     (λ c. search needs)
     returns
     (λ c. search needs)
-    mul-counts
-    array-read-counts
-    add-counts
-    array-write-counts
-    sub-totals
-    sub-totals-2
-    mul-totals
-    array-read-totals
-    add-totals
-    array-write-totals
-    loop-less
+    (λ c. omega (arith, below c))
+    (λ c. below c)
+    (λ c. omega (arith, few c, found c .within, found c .long, slice-fits c))
+    (λ c. below c)
+    (λ c. omega (arith, found c .long))
+    (λ c. omega (arith, found c .long))
+    (λ c. omega (arith, below c))
+    (λ c. below c)
+    (λ c. omega (arith, few c, found c .within, found c .long, slice-fits c))
+    (λ c. below c)
+    (λ c. omega (arith, found c .within, found c .long))
     loop-again
-    returns-2)
+    (λ c. tally-done (c .before .loop .inv) (c .loop-test .left)))

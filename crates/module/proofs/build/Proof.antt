@@ -45,9 +45,6 @@ module _ (k : tie.After-sections-len) where
   long : k .sections-len .result ≡ length parts
   long = k .sections-len .ensures .0 (now (k .before .before .before .before .before .before .before .args .frames)) (k .before .before .before .tally .ensures)
 
-add-if2 : tie.Need-add-if2
-add-if2 c = omega (arith, c .sections-len .ensures .1)
-
 returns-2 : tie.Need-returns-2
 returns-2 c =
     let a = c .before .before .before .before .before .before .before .before .args in
@@ -60,12 +57,6 @@ first c = fitted (c .before .before .put-header .ensures) (omega (arith, c .befo
 
 left : (c : tie.After-slice-known2) → Room (parts (c .before .before .before .before .before)) (c .before .before .put-header .last .0) 8
 left c = room-then (parts (c .before .before .before .before .before)) (first c) (omega (arith, c .before .before .before .before .if2 .left, long (c .before .before .before .before .before), length-append header (parts (c .before .before .before .before .before))))
-
-sub-put-sections : tie.Need-sub-put-sections
-sub-put-sections c = left c .start
-
-part-put-sections-start : tie.Need-part-put-sections-start
-part-put-sections-start c = left c .start
 
 put-sections-requires : tie.Need-put-sections-requires
 put-sections-requires c κs =
@@ -81,12 +72,6 @@ whole c = writes-then (first (c .before .before .before .before)) (c .before .be
 slice-fits : (c : tie.After-slice-known3) → length (now (c .before .before .before .before .before .before .before .before .before .before .before .before .before .before .before .before .args .out)) < 2 ^ 63
 slice-fits c = search needs
 
-add-t9 : tie.Need-add-t9
-add-t9 c = omega (arith, within (whole c), slice-fits c)
-
-same-length : tie.Need-same-length
-same-length c = same-long (whole c)
-
 returns-3 : tie.Need-returns-3
 returns-3 c =
     let a = c .before .before .before .before .before .before .before .before .before .before .before .before .before .before .before .before .args in
@@ -100,13 +85,13 @@ build-spec =
     (λ c κs. search needs)
     returns
     sections-len-requires
-    add-if2
+    (λ c. omega (arith, c .sections-len .ensures .1))
     returns-2
     (λ c κs. search needs)
-    sub-put-sections
-    part-put-sections-start
+    (λ c. left c .start)
+    (λ c. left c .start)
     (λ c. search needs)
     put-sections-requires
-    add-t9
-    same-length
+    (λ c. omega (arith, within (whole c), slice-fits c))
+    (λ c. same-long (whole c))
     returns-3)

@@ -14,20 +14,11 @@ Inv-loop order i₀ i = Looked order i
 abbrev μ-loop : tie.MeasureT-loop
 μ-loop order i₀ i = length order - i
 
-loop-holds : tie.Need-loop-holds Inv-loop μ-loop
-loop-holds c = looked-none (now (c .before .args .order))
-
-loop-less : tie.Need-loop-less Inv-loop μ-loop
-loop-less c = omega (arith, c .before .before .before .loop-test .taken)
-
 loop-again : tie.Need-loop-again Inv-loop μ-loop
 loop-again c = looked-more (c .before .before .before .before .loop .inv) (c .before .before .before .loop-test .taken) (c .before .is-order-id .ensures) (c .if1 .taken)
 
 returns : tie.Need-returns Inv-loop μ-loop
 returns c = looked-stop (c .before .before .before .before .loop .inv) (c .before .before .before .loop-test .taken) (c .before .is-order-id .ensures) (c .if1 .left)
-
-returns-2 : tie.Need-returns-2 Inv-loop μ-loop
-returns-2 c = looked-all (c .before .loop .inv) (c .loop-test .left)
 
 pub is-order-spec : {M : Type 1} → statement M
 is-order-spec =
@@ -35,11 +26,11 @@ is-order-spec =
     (tie.spec
     Inv-loop
     μ-loop
-    loop-holds
+    (λ c. looked-none (now (c .before .args .order)))
     (λ c. search needs)
     (λ c κs. search needs)
     (λ c. search needs)
-    loop-less
+    (λ c. omega (arith, c .before .before .before .loop-test .taken))
     loop-again
     returns
-    returns-2)
+    (λ c. looked-all (c .before .loop .inv) (c .loop-test .left)))

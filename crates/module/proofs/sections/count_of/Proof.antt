@@ -3,11 +3,5 @@ use borrow.Author.Tests.{ne-eqb}
 use Rattle.module.proofs.sections.count_of.Statement.{statement}
 use Rattle.module.proofs.sections.count_of.Tie as tie
 
-returns : tie.Need-returns
-returns c = rw (c .if1 .taken)
-
-returns-2 : tie.Need-returns-2
-returns-2 c = rw (ne-eqb (c .before .args .id) 12 (c .if1 .left))
-
 pub count-of-spec : {M : Type 1} → statement M
-count-of-spec = tie.close (tie.spec returns returns-2)
+count-of-spec = tie.close (tie.spec (λ c. rw (c .if1 .taken)) (λ c. rw (ne-eqb (c .before .args .id) 12 (c .if1 .left))))

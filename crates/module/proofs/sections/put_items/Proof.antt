@@ -33,32 +33,8 @@ loop-holds c =
     let s = c .before .before in
     copied-none (now (s .args .frames)) (s .args .id) (s .args .total) (now (s .args .out)) (s .pre .0) (s .pre .1 .0) (s .pre .1 .1)
 
-same-length : tie.Need-same-length Inv-loop μ-loop
-same-length c = same-long (c .before .before .before .before .loop .inv .done)
-
 returns : tie.Need-returns Inv-loop μ-loop
 returns c = absurd (copied-stop (c .before .before .before .before .loop .inv) (c .before .before .before .loop-test .taken) (sym (c .enum-told .given .1) ∙ c .before .before .frame-at .ensures))
-
-add-from : tie.Need-add-from Inv-loop μ-loop
-add-from c = omega (arith, found c .long, found c .within, slice-fits c)
-
-sub-copy : tie.Need-sub-copy Inv-loop μ-loop
-sub-copy c = omega (arith, found (c .before) .long)
-
-part-copy-start : tie.Need-part-copy-start Inv-loop μ-loop
-part-copy-start c = omega (arith, found (c .before) .long)
-
-part-copy-end : tie.Need-part-copy-end Inv-loop μ-loop
-part-copy-end c = found (c .before) .within
-
-sub-copy-2 : tie.Need-sub-copy-2 Inv-loop μ-loop
-sub-copy-2 c = left (c .before) .start
-
-part-copy-start-2 : tie.Need-part-copy-start-2 Inv-loop μ-loop
-part-copy-start-2 c = left (c .before) .start
-
-sub-n : tie.Need-sub-n Inv-loop μ-loop
-sub-n c = omega (arith, found (c .before .before .before .before .before .before) .long)
 
 -- the item is copied
 again : tie.Need-loop-again Inv-loop μ-loop
@@ -69,26 +45,11 @@ again c =
 out-fits : (c : tie.After-slice-known2 Inv-loop μ-loop) → length (now (c .before .before .before .before .before .before .before .before .before .before .before .before .before .before .args .out)) < 2 ^ 63
 out-fits c = search needs
 
-add-n : tie.Need-add-n Inv-loop μ-loop
-add-n c = omega (arith, within (again c .done), out-fits c)
-
 loop-less : tie.Need-loop-less Inv-loop μ-loop
 loop-less c = omega (arith, found (c .before .before .before .before .before .before) .long, found (c .before .before .before .before .before .before) .within)
 
-loop-again : tie.Need-loop-again Inv-loop μ-loop
-loop-again c = again c
-
-loop-less-2 : tie.Need-loop-less-2 Inv-loop μ-loop
-loop-less-2 c = omega (arith, found (c .before) .long, found (c .before) .within)
-
 loop-again-2 : tie.Need-loop-again-2 Inv-loop μ-loop
 loop-again-2 c = copied-other (c .before .before .before .before .before .before .loop .inv) (c .before .before .before .before .before .loop-test .taken) (found (c .before)) (c .if1 .left)
-
-same-length-2 : tie.Need-same-length-2 Inv-loop μ-loop
-same-length-2 c = same-long (c .before .loop .inv .done)
-
-returns-2 : tie.Need-returns-2 Inv-loop μ-loop
-returns-2 c = copied-done (c .before .loop .inv) (c .loop-test .left)
 
 pub put-items-spec : {M : Type 1} → statement M
 put-items-spec =
@@ -100,21 +61,21 @@ put-items-spec =
     (λ c κs. search needs)
     (λ c. search needs)
     (λ c. search needs)
-    same-length
+    (λ c. same-long (c .before .before .before .before .loop .inv .done))
     returns
-    add-from
-    sub-copy
-    part-copy-start
-    part-copy-end
-    sub-copy-2
-    part-copy-start-2
+    (λ c. omega (arith, found c .long, found c .within, slice-fits c))
+    (λ c. omega (arith, found (c .before) .long))
+    (λ c. omega (arith, found (c .before) .long))
+    (λ c. found (c .before) .within)
+    (λ c. left (c .before) .start)
+    (λ c. left (c .before) .start)
     (λ c. search needs)
     (λ c κs. search needs)
-    sub-n
-    add-n
+    (λ c. omega (arith, found (c .before .before .before .before .before .before) .long))
+    (λ c. omega (arith, within (again c .done), out-fits c))
     loop-less
-    loop-again
-    loop-less-2
+    (λ c. again c)
+    (λ c. omega (arith, found (c .before) .long, found (c .before) .within))
     loop-again-2
-    same-length-2
-    returns-2)
+    (λ c. same-long (c .before .loop .inv .done))
+    (λ c. copied-done (c .before .loop .inv) (c .loop-test .left)))

@@ -49,21 +49,9 @@ module _ (k : tie.After-size) where
 add-put-start : tie.Need-add-put-start
 add-put-start c = omega (arith, c .size .ensures, ten false (c .before .before .before .args .count) (omega (arith, c .before .before .before .fits .count)), c .before .before .before .pre .1 .0 .1)
 
-put-start-requires : tie.Need-put-start-requires
-put-start-requires c κs = room-start (c .before)
-
 -- room for the count, once id and size are written
 left : (c : tie.After-slice-known2) → Room (count (c .before .before .before .before)) (c .before .before .put-start .last .1 .1 .0) (c .before .before .put-start .result)
 left c = room-then (count (c .before .before .before .before)) (c .before .before .put-start .ensures) (room-count (c .before .before .before .before))
-
-sub-put-number : tie.Need-sub-put-number
-sub-put-number c = left c .start
-
-part-put-number-start : tie.Need-part-put-number-start
-part-put-number-start c = left c .start
-
-put-number-requires : tie.Need-put-number-requires
-put-number-requires c κs = left (c .before) .room
 
 -- and for the items, once the count is
 counted : (c : tie.After-slice-known3)
@@ -93,28 +81,22 @@ whole c = writes-as (sym (parts (c .before .before .before .before .before .befo
 add-result : tie.Need-add-result
 add-result c = omega (arith, within (whole c), slice-fits (c .before .before .before .before .before .before .before .before .before .before .before .before))
 
-same-length : tie.Need-same-length
-same-length c = same-long (whole c)
-
-returns : tie.Need-returns
-returns c = whole c
-
 pub put-section-spec : {M : Type 1} → statement M
 put-section-spec =
     tie.close
     (tie.spec
     (λ c κs. search needs)
     add-put-start
-    put-start-requires
-    sub-put-number
-    part-put-number-start
+    (λ c κs. room-start (c .before))
+    (λ c. left c .start)
+    (λ c. left c .start)
     (λ c. search needs)
-    put-number-requires
+    (λ c κs. left (c .before) .room)
     add-b
     sub-put-items
     part-put-items-start
     (λ c. search needs)
     put-items-requires
     add-result
-    same-length
-    returns)
+    (λ c. same-long (whole c))
+    (λ c. whole c))

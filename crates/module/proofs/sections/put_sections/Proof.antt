@@ -22,27 +22,9 @@ Inv-loop frames order count out₀ counts totals n₀ k₀ out n k = Put order c
 abbrev μ-loop : tie.MeasureT-loop
 μ-loop frames order count out₀ counts totals n₀ k₀ out n k = length order - k
 
-loop-holds : tie.Need-loop-holds Inv-loop μ-loop
-loop-holds c = put-none _ _ _ _
-
 -- the id is below 16
 below : (c : tie.After-shared-slice-known3 Inv-loop μ-loop) → getD (now (c .before .before .before .before .before .before .before .before .args .order)) (c .before .before .loop .k) 0 < 16
 below c = listed-below _ (listed (now (c .before .before .before .before .before .before .before .before .args .order)) (c .before .before .loop .k) (c .before .before .before .before .before .before .before .before .pre .0) (omega (arith, c .before .loop-test .taken)))
-
-cast-i : tie.Need-cast-i Inv-loop μ-loop
-cast-i c = omega (arith, below c)
-
-mul-count-of : tie.Need-mul-count-of Inv-loop μ-loop
-mul-count-of c = omega (arith, below c)
-
-array-read-count-of : tie.Need-array-read-count-of Inv-loop μ-loop
-array-read-count-of c = below c
-
-mul-put-section : tie.Need-mul-put-section Inv-loop μ-loop
-mul-put-section c = omega (arith, below (c .before))
-
-array-read-put-section : tie.Need-array-read-put-section Inv-loop μ-loop
-array-read-put-section c = below (c .before)
 
 -- the section that is next
 next : (c : tie.After-count-of Inv-loop μ-loop) → _≡_ {A = List ℕ}
@@ -53,12 +35,6 @@ next c = section-is (now (c .before .before .before .before .before .before .bef
 left : (c : tie.After-count-of Inv-loop μ-loop)
     → Room (sectionOf (c .before .before .before .before .before .before .before .before .before .args .count) (framesOf (now (c .before .before .before .before .before .before .before .before .before .args .frames))) (getD (now (c .before .before .before .before .before .before .before .before .before .args .order)) (c .before .before .before .loop .k) 0)) (c .before .before .before .loop .out) (c .before .before .before .loop .n)
 left c = put-room (c .before .before .before .loop .inv) (omega (arith, c .before .before .loop-test .taken)) (c .before .before .before .before .before .before .before .before .before .pre .1 .1 .1)
-
-sub-put-section : tie.Need-sub-put-section Inv-loop μ-loop
-sub-put-section c = left c .start
-
-part-put-section-start : tie.Need-part-put-section-start Inv-loop μ-loop
-part-put-section-start c = left c .start
 
 put-section-requires : tie.Need-put-section-requires Inv-loop μ-loop
 put-section-requires c κs =
@@ -74,39 +50,27 @@ again c = put-more (c .before .before .before .before .before .before .before .l
 out-fits : (c : tie.After-slice-known2 Inv-loop μ-loop) → length (now (c .before .before .before .before .before .before .before .before .before .before .before .before .before .args .out)) < 2 ^ 63
 out-fits c = search needs
 
-add-n : tie.Need-add-n Inv-loop μ-loop
-add-n c = omega (arith, within (again c .done), out-fits c)
-
-loop-again : tie.Need-loop-again Inv-loop μ-loop
-loop-again c = again c
-
-same-length : tie.Need-same-length Inv-loop μ-loop
-same-length c = same-long (c .before .loop .inv .done)
-
-returns : tie.Need-returns Inv-loop μ-loop
-returns c = put-all (c .before .loop .inv) (omega (arith, c .loop-test .left))
-
 pub put-sections-spec : {M : Type 1} → statement M
 put-sections-spec =
     tie.close
     (tie.spec
     Inv-loop
     μ-loop
-    loop-holds
+    (λ c. put-none _ _ _ _)
     (λ c. search needs)
-    cast-i
-    mul-count-of
-    array-read-count-of
+    (λ c. omega (arith, below c))
+    (λ c. omega (arith, below c))
+    (λ c. below c)
     (λ c κs. search needs)
-    mul-put-section
-    array-read-put-section
-    sub-put-section
-    part-put-section-start
+    (λ c. omega (arith, below (c .before)))
+    (λ c. below (c .before))
+    (λ c. left c .start)
+    (λ c. left c .start)
     (λ c. search needs)
     put-section-requires
-    add-n
+    (λ c. omega (arith, within (again c .done), out-fits c))
     (λ c. search needs)
     (λ c. search needs)
-    loop-again
-    same-length
-    returns)
+    (λ c. again c)
+    (λ c. same-long (c .before .loop .inv .done))
+    (λ c. put-all (c .before .loop .inv) (omega (arith, c .loop-test .left))))

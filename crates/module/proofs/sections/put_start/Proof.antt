@@ -18,39 +18,21 @@ first c = write-one (c .before .args .id) (now (c .before .args .out)) (omega (a
 left : (c : tie.After-slice-known) → Room (uleb (c .before .args .size)) (set (now (c .before .args .out)) 0 (c .before .args .id)) 1
 left c = room-then (uleb (c .before .args .size)) (first c) (c .before .pre)
 
-sub-put-number : tie.Need-sub-put-number
-sub-put-number c = left c .start
-
-part-put-number-start : tie.Need-part-put-number-start
-part-put-number-start c = left c .start
-
-put-number-requires : tie.Need-put-number-requires
-put-number-requires c κs = left (c .before) .room
-
 slice-fits : (c : tie.After-slice-known) → length (now (c .before .args .out)) < 2 ^ 63
 slice-fits c = search needs
 
 whole : tie.Need-returns
 whole c = writes-then (first (c .before .before .before .before)) (c .before .before .put-number .ensures)
 
-add-result : tie.Need-add-result
-add-result c = omega (arith, within (whole c), slice-fits (c .before .before .before .before))
-
-same-length : tie.Need-same-length
-same-length c = same-long (whole c)
-
-returns : tie.Need-returns
-returns c = whole c
-
 pub put-start-spec : {M : Type 1} → statement M
 put-start-spec =
     tie.close
     (tie.spec
     (λ c. search needs)
-    sub-put-number
-    part-put-number-start
+    (λ c. left c .start)
+    (λ c. left c .start)
     (λ c. search needs)
-    put-number-requires
-    add-result
-    same-length
-    returns)
+    (λ c κs. left (c .before) .room)
+    (λ c. omega (arith, within (whole c), slice-fits (c .before .before .before .before)))
+    (λ c. same-long (whole c))
+    (λ c. whole c))

@@ -16,15 +16,6 @@ short c = omega (arith, c .size .ensures, ten false (c .before .args .count) (om
 short2 : (c : tie.After-size2) → c .size2 .result ≤ 10
 short2 c = omega (arith, c .size2 .ensures, ten false (c .before .size .result + c .before .before .args .total) (omega (arith, short (c .before), c .before .before .pre)))
 
-add-size : tie.Need-add-size
-add-size c = omega (arith, short c, c .before .pre)
-
-add-result : tie.Need-add-result
-add-result c = omega (arith, short2 c)
-
-add-result-2 : tie.Need-add-result-2
-add-result-2 c = omega (arith, short2 c, short (c .before), c .before .before .pre)
-
 returns : tie.Need-returns
 returns c = (
   λ i items e. ap (λ (n : ℕ). 1 + n + (c .before .size .result + c .before .before .args .total)) (c .size2 .ensures)
@@ -34,4 +25,4 @@ returns c = (
 
 pub section-len-spec : {M : Type 1} → statement M
 section-len-spec =
-    tie.close (tie.spec (λ c κs. search needs) add-size (λ c κs. search needs) add-result add-result-2 returns)
+    tie.close (tie.spec (λ c κs. search needs) (λ c. omega (arith, short c, c .before .pre)) (λ c κs. search needs) (λ c. omega (arith, short2 c)) (λ c. omega (arith, short2 c, short (c .before), c .before .before .pre)) returns)

@@ -17,27 +17,9 @@ Inv-loop order count counts totals n₀ j₀ n j = Measured order count counts t
 abbrev μ-loop : tie.MeasureT-loop
 μ-loop order count counts totals n₀ j₀ n j = length order - j
 
-loop-holds : tie.Need-loop-holds Inv-loop μ-loop
-loop-holds c = (measured-none _ _ _ _, omega arith)
-
 -- the id is below 16
 below : (c : tie.After-shared-slice-known2 Inv-loop μ-loop) → getD (now (c .before .before .before .before .before .before .args .order)) (c .before .before .loop .j) 0 < 16
 below c = listed-below _ (listed (now (c .before .before .before .before .before .before .args .order)) (c .before .before .loop .j) (c .before .before .before .before .before .before .pre .0) (c .before .loop-test .taken))
-
-cast-i : tie.Need-cast-i Inv-loop μ-loop
-cast-i c = omega (arith, below c)
-
-mul-count-of : tie.Need-mul-count-of Inv-loop μ-loop
-mul-count-of c = omega (arith, below c)
-
-array-read-count-of : tie.Need-array-read-count-of Inv-loop μ-loop
-array-read-count-of c = below c
-
-mul-section-len : tie.Need-mul-section-len Inv-loop μ-loop
-mul-section-len c = omega (arith, below (c .before))
-
-array-read-section-len : tie.Need-array-read-section-len Inv-loop μ-loop
-array-read-section-len c = below (c .before)
 
 section-len-requires : tie.Need-section-len-requires Inv-loop μ-loop
 section-len-requires c κs = c .before .before .before .before .before .before .before .pre .1 .1 _ (below (c .before))
@@ -68,14 +50,14 @@ sections-len-spec =
     (tie.spec
     Inv-loop
     μ-loop
-    loop-holds
+    (λ c. (measured-none _ _ _ _, omega arith))
     (λ c. search needs)
-    cast-i
-    mul-count-of
-    array-read-count-of
+    (λ c. omega (arith, below c))
+    (λ c. omega (arith, below c))
+    (λ c. below c)
     (λ c κs. search needs)
-    mul-section-len
-    array-read-section-len
+    (λ c. omega (arith, below (c .before)))
+    (λ c. below (c .before))
     section-len-requires
     add-n
     (λ c. search needs)
