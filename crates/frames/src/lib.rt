@@ -10,7 +10,7 @@ ghost use Rattle.frames.specs.Tally.{tallyOf};
 ghost use Rattle.frames.specs.Append.{headBytes, outcome, appending};
 
 // The most bytes of a store, and of an item.
-const STORE_MOST: usize = 16777216;
+pub const STORE_MOST: usize = 16777216;
 
 const ITEM_MOST: usize = 65536;
 

@@ -16,8 +16,11 @@ abbrev pub header : List ℕ
 header = 0x00 ∷ 0x61 ∷ 0x73 ∷ 0x6D ∷ 0x01 ∷ 0x00 ∷ 0x00 ∷ 0x00 ∷ []
 
 -- Sections: id, size of the contents in bytes, contents
+abbrev pub withSize : List ℕ → List ℕ
+withSize contents = uleb (length contents) ++ contents
+
 abbrev pub section : ℕ → List ℕ → List ℕ
-section i contents = i ∷ (uleb (length contents) ++ contents)
+section i contents = i ∷ withSize contents
 
 -- Conventions, of several members: how many, as a u32, and then they
 abbrev pub vector : List (List ℕ) → List ℕ

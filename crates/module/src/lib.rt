@@ -3,6 +3,7 @@ mod order;
 mod sections;
 
 use format::Written;
+use frames::STORE_MOST;
 use frames::State;
 use order::is_order;
 use sections::put_sections;
@@ -18,9 +19,7 @@ ghost use Rattle.frames.specs.Append.{storeMost};
 ghost use Rattle.module.specs.Module.{header};
 ghost use Rattle.module.specs.Finish.{outcome, building, finishing, orderMost, orderIds, allAmong};
 
-// The most bytes of a store, and ids of an order list.
-const STORE_MOST: usize = 16777216;
-
+// The most ids of an order list.
 const ORDER_MOST: usize = 32;
 
 pub struct Module {}

@@ -4,7 +4,7 @@ use frames::FrameAt;
 use frames::Tallies;
 ghost use mathlib.Core.Path.{_≡_};
 ghost use mathlib.Core.Bool.{true, false, cond};
-ghost use mathlib.Core.List.{List, _∷_, _++_};
+ghost use mathlib.Core.List.{List, _++_};
 ghost use Prim.Native.Nat.{ℕ, _+_, _*_, _≤_, _<_};
 ghost use lib.Dec.{eqb};
 ghost use lib.ListN.{length, getD};
@@ -16,7 +16,7 @@ ghost use Rattle.leb128.specs.Leb.{uleb};
 ghost use Rattle.frames.specs.Frames.{frame, noFrames, framesOf};
 ghost use Rattle.frames.specs.Append.{storeMost};
 ghost use Rattle.frames.specs.Tally.{itemBytes, tallyOf};
-ghost use Rattle.module.specs.Module.{section, sectionOf, dataCount};
+ghost use Rattle.module.specs.Module.{withSize, section, sectionOf, dataCount};
 ghost use Rattle.module.specs.Finish.{orderMost, orderIds, allAmong};
 
 // The count that a section says: how many items it has or, of the section that has none, the data count.
@@ -46,15 +46,6 @@ fn put_number(n: usize, out: &mut [u8]) -> usize
     }
 }
 
-// A section's id and size.
-fn put_start(id: u8, size: usize, out: &mut [u8]) -> usize
-    requires { ⌜ length (id ∷ uleb size) ≤ length (now out) ⌝ }
-    ensures { λ r. ⌜ Writes (id ∷ uleb size) (now (out .entry)) (now (out .exit)) (Length r) ⌝ }
-{
-    out[0] = id;
-    1 + put_number(size, &mut out[1..])
-}
-
 // The items of a section, of which there are so many bytes: the walk ends with the last of them.
 fn put_items(frames: &[u8], id: u8, total: usize, out: &mut [u8]) -> usize
     requires { ⌜ noFrames (run frame (now frames)) ≡ false ⌝ }
@@ -78,15 +69,26 @@ fn put_items(frames: &[u8], id: u8, total: usize, out: &mut [u8]) -> usize
     n
 }
 
+// Size, count and items, as the Rust's `encode_section`.
+fn encode_section(frames: &[u8], id: u8, count: usize, total: usize, out: &mut [u8]) -> usize
+    requires { ⌜ noFrames (run frame (now frames)) ≡ false ⌝ }
+    requires { ⌜ (total ≡ length (itemBytes id (now frames))) × (total ≤ storeMost) ⌝ }
+    requires { ⌜ length (withSize (uleb count ++ itemBytes id (now frames))) ≤ length (now out) ⌝ }
+    ensures { λ r. ⌜ Writes (withSize (uleb count ++ itemBytes id (now (frames .entry)))) (now (out .entry)) (now (out .exit)) (Length r) ⌝ }
+{
+    let a = put_number(leb128::size(false, count as u64) + total, out);
+    let b = a + put_number(count, &mut out[a..]);
+    b + put_items(frames, id, total, &mut out[b..])
+}
+
 fn put_section(frames: &[u8], id: u8, count: usize, total: usize, out: &mut [u8]) -> usize
     requires { ⌜ noFrames (run frame (now frames)) ≡ false ⌝ }
     requires { ⌜ (total ≡ length (itemBytes id (now frames))) × (total ≤ storeMost) ⌝ }
     requires { ⌜ length (section id (uleb count ++ itemBytes id (now frames))) ≤ length (now out) ⌝ }
     ensures { λ r. ⌜ Writes (section id (uleb count ++ itemBytes id (now (frames .entry)))) (now (out .entry)) (now (out .exit)) (Length r) ⌝ }
 {
-    let a = put_start(id, leb128::size(false, count as u64) + total, out);
-    let b = a + put_number(count, &mut out[a..]);
-    b + put_items(frames, id, total, &mut out[b..])
+    out[0] = id;
+    1 + encode_section(frames, id, count, total, &mut out[1..])
 }
 
 // How many bytes the sections of an order list have.

@@ -1,102 +1,47 @@
--- `module::sections::put_section` meets its contract: id and size, count and items, one behind the other. Assumes nothing.
+-- `module::sections::put_section` meets its contract: its id, and the rest behind it. Assumes nothing.
 use denote.Ref.{now}
-use mathlib.Core.Path.{_≡_, subst, sym}
-use mathlib.Core.Bool.{false}
-use mathlib.Core.List.{List, _∷_, _++_}
+use mathlib.Core.List.{List, [], _∷_, _++_}
 use native.Mathlib.Omega.{arith}
-use Prim.Native.Nat.{ℕ, _+_, _-_, _≤_, _<_, _^_}
-use lib.ListN.{length, length-append}
 use borrow.Author.Needs.{needs}
-use borrow.Rule.Slice.PartMut.{putMid}
-use Rattle.format.specs.Write.{Writes, Room, writes-as, writes-then, room-then, within, same-long}
+use lib.ListN.{length, set}
+use Prim.Native.Nat.{ℕ, _<_, _^_}
+use Rattle.format.specs.Write.{Writes, Room, write-one, writes-then, room-then, within, same-long}
 use Rattle.format.specs.declared.Written.the-variants.{Length}
 use Rattle.leb128.specs.Leb.{uleb}
-use Rattle.leb128.proofs.Writing.{ten}
 use Rattle.frames.specs.Tally.{itemBytes}
-use Rattle.module.specs.Module.{section}
-use Rattle.module.proofs.Lengths.{counted-parts}
+use Rattle.module.specs.Module.{withSize}
 use Rattle.module.proofs.sections.put_section.Statement.{statement}
 use Rattle.module.proofs.sections.put_section.Tie as tie
 
-module _ (k : tie.After-size) where
-  abbrev items : List ℕ
-  items = itemBytes (k .before .before .before .args .id) (now (k .before .before .before .args .frames))
+module _ (k : tie.After-slice-known) where
+  abbrev rest : List ℕ
+  rest = withSize (uleb (k .before .before .args .count) ++ itemBytes (k .before .before .args .id) (now (k .before .before .args .frames)))
 
-  abbrev size : ℕ
-  size = k .size .result + k .before .before .before .args .total
+  -- the id is written
+  first : Writes (k .before .before .args .id ∷ []) (now (k .before .before .args .out)) (set (now (k .before .before .args .out)) 0 (k .before .before .args .id)) (Length 1)
+  first = write-one (k .before .before .args .id) (now (k .before .before .args .out)) (omega (arith, k .before .before .pre .1 .1))
 
-  abbrev start : List ℕ
-  start = k .before .before .before .args .id ∷ uleb size
+  left : Room rest (set (now (k .before .before .args .out)) 0 (k .before .before .args .id)) 1
+  left = room-then rest first (k .before .before .pre .1 .1)
 
-  abbrev count : List ℕ
-  count = uleb (k .before .before .before .args .count)
-
-  parts : section (k .before .before .before .args .id) (count ++ items) ≡ (start ++ count) ++ items
-  parts = counted-parts (k .before .before .before .args .id) (k .before .before .before .args .count) items size (omega (arith, k .size .ensures, k .before .before .before .pre .1 .0 .0))
-
-  room : length ((start ++ count) ++ items) ≤ length (now (k .before .before .before .args .out))
-  room = subst (λ (l : List ℕ). length l ≤ length (now (k .before .before .before .args .out))) parts (k .before .before .before .pre .1 .1)
-
-  room-count : length (start ++ count) ≤ length (now (k .before .before .before .args .out))
-  room-count = omega (arith, room, length-append (start ++ count) items)
-
-  room-start : length start ≤ length (now (k .before .before .before .args .out))
-  room-start = omega (arith, room-count, length-append start count)
-
-  slice-fits : length (now (k .before .before .before .args .out)) < 2 ^ 63
+  slice-fits : length (now (k .before .before .args .out)) < 2 ^ 63
   slice-fits = search needs
 
-add-put-start : tie.Need-add-put-start
-add-put-start c = omega (arith, c .size .ensures, ten false (c .before .before .before .args .count) (omega (arith, c .before .before .before .fits .count)), c .before .before .before .pre .1 .0 .1)
-
--- room for the count, once id and size are written
-left : (c : tie.After-slice-known2) → Room (count (c .before .before .before .before)) (c .before .before .put-start .last .1 .1 .0) (c .before .before .put-start .result)
-left c = room-then (count (c .before .before .before .before)) (c .before .before .put-start .ensures) (room-count (c .before .before .before .before))
-
--- and for the items, once the count is
-counted : (c : tie.After-slice-known3)
-    → Writes (start (c .before .before .before .before .before .before .before .before) ++ count (c .before .before .before .before .before .before .before .before)) (now (c .before .before .before .before .before .before .before .before .before .before .before .args .out))
-    (putMid (c .before .before .before .before .before .before .put-start .result) (length (c .before .before .before .before .before .before .put-start .last .1 .1 .0) - c .before .before .before .before .before .before .put-start .result) (c .before .before .before .before .before .before .put-start .last .1 .1 .0) (c .before .before .put-number .last .1 .0))
-    (Length (c .before .before .before .before .before .before .put-start .result + c .before .before .put-number .result))
-counted c = writes-then (c .before .before .before .before .before .before .put-start .ensures) (c .before .before .put-number .ensures)
-
-add-b : tie.Need-add-b
-add-b c = omega (arith, within (counted c), slice-fits (c .before .before .before .before .before .before .before .before))
-
-sub-put-items : tie.Need-sub-put-items
-sub-put-items c = room-then (items (c .before .before .before .before .before .before .before .before)) (counted c) (room (c .before .before .before .before .before .before .before .before)) .start
-
-part-put-items-start : tie.Need-part-put-items-start
-part-put-items-start c = room-then (items (c .before .before .before .before .before .before .before .before)) (counted c) (room (c .before .before .before .before .before .before .before .before)) .start
-
-put-items-requires : tie.Need-put-items-requires
-put-items-requires c κs =
-    let r = room-then (items (c .before .before .before .before .before .before .before .before .before)) (counted (c .before)) (room (c .before .before .before .before .before .before .before .before .before)) .room in
-    let s = c .before .before .before .before .before .before .before .before .before .before .before .before in
-    (s .pre .0, (s .pre .1 .0 .0, omega (arith, r, s .pre .1 .0 .0)))
+encode-section-requires : tie.Need-encode-section-requires
+encode-section-requires c κs = let s = c .before .before .before in (s .pre .0, (s .pre .1 .0, left (c .before) .room))
 
 whole : tie.Need-returns
-whole c = writes-as (sym (parts (c .before .before .before .before .before .before .before .before .before .before .before .before))) (writes-then (counted (c .before .before .before .before)) (c .before .before .put-items .ensures))
-
-add-result : tie.Need-add-result
-add-result c = omega (arith, within (whole c), slice-fits (c .before .before .before .before .before .before .before .before .before .before .before .before))
+whole c = writes-then (first (c .before .before .before .before)) (c .before .before .encode-section .ensures)
 
 pub put-section-spec : {M : Type 1} → statement M
 put-section-spec =
     tie.close
     (tie.spec
-    (λ c κs. search needs)
-    add-put-start
-    (λ c κs. room-start (c .before))
+    (λ c. search needs)
     (λ c. left c .start)
     (λ c. left c .start)
     (λ c. search needs)
-    (λ c κs. left (c .before) .room)
-    add-b
-    sub-put-items
-    part-put-items-start
-    (λ c. search needs)
-    put-items-requires
-    add-result
+    encode-section-requires
+    (λ c. omega (arith, within (whole c), slice-fits (c .before .before .before .before)))
     (λ c. same-long (whole c))
     (λ c. whole c))
