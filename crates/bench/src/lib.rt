@@ -129,3 +129,8 @@ pub extern "C" fn thriftbell_finish(
         Finished::Short => 10,
     }
 }
+
+#[no_mangle]
+pub extern "C" fn thriftbell_is_name(s: &[u8]) -> bool {
+    names::is_name(s)
+}

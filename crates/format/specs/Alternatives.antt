@@ -1,15 +1,15 @@
 -- One format or another, told apart by the first number; what may be missing; a prefix that may be missing. Assumes nothing.
 use mathlib.Core.Path.{_≡_, refl, _∙_, ap, subst}
 use mathlib.Core.Logic.{_⊎_, inl, inr}
-use mathlib.Core.Bool.{Bool, true, false}
+use mathlib.Core.Bool.{Bool, true, false, cond}
 use mathlib.Core.Option.{Option, none, some}
 use mathlib.Core.List.{List, [], _∷_, _++_}
 use Prim.Native.Nat.{ℕ, _<_}
 use lib.Dec.{eqb}
 use borrow.Author.Tests.{eq-eqb}
-use Rattle.format.specs.Parsed.{Parsed, fail, got, fail-got, map, map-inv}
+use Rattle.format.specs.Parsed.{Parsed, fail, got, fail-got, bind, map, map-inv, fromOption}
 use Rattle.format.specs.Format.{Format}
-use Rattle.format.specs.Basic.{number, tag, lit, empty}
+use Rattle.format.specs.Basic.{number, tag, lit, empty, via}
 use Rattle.format.specs.Combine.{pair, iso}
 
 -- everything that F prints begins with a number at which p is v
@@ -69,6 +69,68 @@ module _ {A B : Type 0} (p : ℕ → Bool) (F : Format A) (G : Format B) where
 
   abbrev pub alt : Heads F p true → Heads G p false → Format (A ⊎ B)
   alt hf hg = record { Ok = altOk; print = altPrint; parse = altParse; back = alt-back hf hg; only = alt-only }
+
+-- ---- one of two of the same values, which q tells apart as p tells the first numbers
+
+pub record Apart {A : Type 0} (p : ℕ → Bool) (q : A → Bool) (F G : Format A) : Type 0 where
+  pub firstHeads : Heads F p true
+  pub secondHeads : Heads G p false
+  pub firstOk : (a : A) → F .Ok a → q a ≡ true
+  pub secondOk : (a : A) → G .Ok a → q a ≡ false
+
+module _ {A : Type 0} (p : ℕ → Bool) (q : A → Bool) (F G : Format A) (apart : Apart p q F G) where
+  abbrev pub sideOf : A → A ⊎ A
+  sideOf a = cond (q a) (inl a) (inr a)
+
+  abbrev pub ofSide : A ⊎ A → Option A
+  ofSide (inl a) = some a
+  ofSide (inr a) = some a
+
+  pub side-back : (a : A) → ofSide (sideOf a) ≡ some a
+  side-back a = go (q a)
+    where
+      go : (t : Bool) → ofSide (cond t (inl a) (inr a)) ≡ some a
+      go true = refl
+      go false = refl
+
+  pub side-only : (w : A ⊎ A) (a : A) → altOk p F G w → ofSide w ≡ some a → altOk p F G (sideOf a) × (w ≡ sideOf a)
+  side-only (inl b) a h e = let v : b ≡ a = cc in let w : inl b ≡ sideOf a = rw (← v, apart .firstOk b h) in (subst (altOk p F G) w h, w)
+  side-only (inr b) a h e = let v : b ≡ a = cc in let w : inr b ≡ sideOf a = rw (← v, apart .secondOk b h) in (subst (altOk p F G) w h, w)
+
+  abbrev pub union : Format A
+  union =
+      via (alt p F G (apart .firstHeads) (apart .secondHeads))
+      (record { OkA = λ a. altOk p F G (sideOf a); to = sideOf; of = ofSide; fits = λ a h. h; of-to = λ a h. side-back a; to-of = side-only })
+
+  -- it reads as the one or the other does
+  pub union-first : (x : ℕ) (s : List ℕ) → p x ≡ true → union .parse (x ∷ s) ≡ F .parse (x ∷ s)
+  union-first x s h = rw h (go (F .parse (x ∷ s)))
+    where
+      go : (m : Parsed A) → bind (map inl m) (λ w r. fromOption (ofSide w) r) ≡ m
+      go fail = refl
+      go (got a r) = refl
+
+  pub union-second : (x : ℕ) (s : List ℕ) → p x ≡ false → union .parse (x ∷ s) ≡ G .parse (x ∷ s)
+  union-second x s h = rw h (go (G .parse (x ∷ s)))
+    where
+      go : (m : Parsed A) → bind (map inr m) (λ w r. fromOption (ofSide w) r) ≡ m
+      go fail = refl
+      go (got a r) = refl
+
+  -- what holds of the values of both holds of these
+  pub union-each : (P : A → Type 0) → ((a : A) → F .Ok a → P a) → ((a : A) → G .Ok a → P a) → (a : A) → union .Ok a → P a
+  union-each P f g a h = go (q a) h
+    where
+      go : (t : Bool) → altOk p F G (cond t (inl a) (inr a)) → P a
+      go true h = f a h
+      go false h = g a h
+
+  pub heads-union : (o : ℕ → Bool) (v : Bool) → Heads F o v → Heads G o v → Heads union o v
+  heads-union o v f g a h = go (q a) h
+    where
+      go : (t : Bool) → altOk p F G (cond t (inl a) (inr a)) → (x : ℕ) × (l : List ℕ) × (altPrint p F G (cond t (inl a) (inr a)) ≡ x ∷ l) × (o x ≡ v)
+      go true h = f a h
+      go false h = g a h
 
 -- ---- the first numbers that a format prints
 

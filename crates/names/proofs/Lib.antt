@@ -1,0 +1,3 @@
+-- What the proofs of `names` share.
+pub mod Reading
+pub mod Naming

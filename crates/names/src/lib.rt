@@ -1,0 +1,124 @@
+// Names: whether bytes are UTF-8, in one pass over their characters.
+ghost use mathlib.Core.Path.{_≡_};
+ghost use Prim.Native.Nat.{_≤_, _<_};
+ghost use lib.ListN.{length, getD, drop};
+ghost use Rattle.names.specs.Char.{two, three, four, wide};
+ghost use Rattle.names.specs.Name.{isName};
+ghost use Rattle.names.specs.Place.{endOf, between, lowest, past};
+
+// A byte; past the end 0, which is no second byte of any character.
+fn byte(s: &[u8], i: usize) -> u8
+    ensures { λ r. ⌜ r ≡ getD (now (s .entry)) i 0 ⌝ }
+{
+    if i < s.len() { s[i] } else { 0 }
+}
+
+fn is_between(lo: u8, hi: u8, b: u8) -> bool
+    ensures { λ r. ⌜ r ≡ between lo hi b ⌝ }
+{
+    if b < lo {
+        return false;
+    }
+    b < hi
+}
+
+// A third or fourth byte, and a second one of two.
+fn is_more(b: u8) -> bool
+    ensures { λ r. ⌜ r ≡ between 0x80 0xC0 b ⌝ }
+{
+    is_between(0x80, 0xC0, b)
+}
+
+// A second byte of three or four, behind the first.
+fn is_second(b: u8, c: u8) -> bool
+    ensures { λ r. ⌜ r ≡ between (lowest b) (past b) c ⌝ }
+{
+    if b == 0xE0 {
+        return is_between(0xA0, 0xC0, c);
+    }
+    if b == 0xED {
+        return is_between(0x80, 0xA0, c);
+    }
+    if b == 0xF0 {
+        return is_between(0x90, 0xC0, c);
+    }
+    if b == 0xF4 {
+        return is_between(0x80, 0x90, c);
+    }
+    is_more(c)
+}
+
+// Where a character of two, three or four bytes ends that begins at a place, with byte b; 0 where none does.
+fn two_end(s: &[u8], at: usize, b: u8) -> usize
+    requires { ⌜ (at < length (now s)) × (getD (now s) at 0 ≡ b) × (b < 0xE0) ⌝ }
+    ensures { λ r. ⌜ r ≡ endOf (now (s .entry)) (two .parse (drop at (now (s .entry)))) ⌝ }
+{
+    if b < 0xC2 {
+        return 0;
+    }
+    if is_more(byte(s, at + 1)) {
+        return at + 2;
+    }
+    0
+}
+
+fn three_end(s: &[u8], at: usize, b: u8) -> usize
+    requires { ⌜ (at < length (now s)) × (getD (now s) at 0 ≡ b) × (0xE0 ≤ b) × (b < 0xF0) ⌝ }
+    ensures { λ r. ⌜ r ≡ endOf (now (s .entry)) (three .parse (drop at (now (s .entry)))) ⌝ }
+{
+    if is_second(b, byte(s, at + 1)) {
+        if is_more(byte(s, at + 2)) {
+            return at + 3;
+        }
+    }
+    0
+}
+
+fn four_end(s: &[u8], at: usize, b: u8) -> usize
+    requires { ⌜ (at < length (now s)) × (getD (now s) at 0 ≡ b) × (0xF0 ≤ b) ⌝ }
+    ensures { λ r. ⌜ r ≡ endOf (now (s .entry)) (four .parse (drop at (now (s .entry)))) ⌝ }
+{
+    if 0xF4 < b {
+        return 0;
+    }
+    if is_second(b, byte(s, at + 1)) {
+        if is_more(byte(s, at + 2)) {
+            if is_more(byte(s, at + 3)) {
+                return at + 4;
+            }
+        }
+    }
+    0
+}
+
+fn wide_end(s: &[u8], at: usize, b: u8) -> usize
+    requires { ⌜ (at < length (now s)) × (getD (now s) at 0 ≡ b) ⌝ }
+    ensures { λ r. ⌜ r ≡ endOf (now (s .entry)) (wide .parse (drop at (now (s .entry)))) ⌝ }
+{
+    if b < 0xE0 {
+        return two_end(s, at, b);
+    }
+    if b < 0xF0 {
+        return three_end(s, at, b);
+    }
+    four_end(s, at, b)
+}
+
+pub fn is_name(s: &[u8]) -> bool
+    ensures { λ r. ⌜ r ≡ isName (now (s .entry)) ⌝ }
+{
+    let mut at: usize = 0;
+    while at < s.len() {
+        let b = s[at];
+        if b < 0x80 {
+            at += 1;
+        } else {
+            let end = wide_end(s, at, b);
+            if end == 0 {
+                return false;
+            }
+            at = end;
+        }
+    }
+    true
+}
