@@ -7,13 +7,20 @@ extern "C" {
     fn thriftbell_is_name(s: *const u8, len: usize) -> bool;
 }
 
-fn proved(s: &[u8]) -> bool {
-    unsafe { thriftbell_is_name(s.as_ptr(), s.len()) }
+// All behind one calling convention.
+type Check = unsafe extern "C" fn(*const u8, usize) -> bool;
+
+fn is_name(check: Check, s: &[u8]) -> bool {
+    unsafe { check(s.as_ptr(), s.len()) }
+}
+
+unsafe extern "C" fn of_std(s: *const u8, len: usize) -> bool {
+    std::str::from_utf8(std::slice::from_raw_parts(s, len)).is_ok()
 }
 
 // One branch for each kind of first byte.
-#[inline(never)]
-fn plain(s: &[u8]) -> bool {
+unsafe extern "C" fn by_hand(s: *const u8, len: usize) -> bool {
+    let s = std::slice::from_raw_parts(s, len);
     let more = |i: usize| i < s.len() && s[i] & 0xC0 == 0x80;
     let mut i = 0;
     while i < s.len() {
@@ -45,8 +52,8 @@ fn plain(s: &[u8]) -> bool {
 }
 
 fn compare(s: &[u8]) {
-    let right = std::str::from_utf8(s).is_ok();
-    assert!(proved(s) == right && plain(s) == right, "{s:02X?}");
+    let right = is_name(of_std, s);
+    assert!(is_name(thriftbell_is_name, s) == right && is_name(by_hand, s) == right, "{s:02X?}");
 }
 
 fn compare_all(random: &mut dyn FnMut() -> u64) {
@@ -96,15 +103,15 @@ fn character(random: &mut dyn FnMut() -> u64) -> Vec<u8> {
 
 // The least of 30 rounds each, the three taking turns.
 fn times(names: &[Vec<u8>]) -> [f64; 3] {
-    let checks: [fn(&[u8]) -> bool; 3] = [proved, plain, |s| std::str::from_utf8(s).is_ok()];
+    let checks: [Check; 3] = [thriftbell_is_name, by_hand, of_std];
     let mut least = [f64::MAX; 3];
     for _ in 0..30 {
-        for (i, check) in checks.iter().enumerate() {
+        for (i, &check) in checks.iter().enumerate() {
             let check = black_box(check);
             let start = Instant::now();
             for _ in 0..4 {
                 for name in names {
-                    black_box(check(black_box(name)));
+                    black_box(is_name(check, black_box(name)));
                 }
             }
             least[i] = least[i].min(start.elapsed().as_secs_f64());

@@ -5,7 +5,8 @@ use mathlib.Core.Option.{Option, none, some, Option·map}
 use mathlib.Core.List.{List, _∷_}
 use Prim.Native.Nat.{ℕ, _+_, _-_, _≤_, _<_}
 use native.Mathlib.Omega.{arith}
-use lib.ListN.{length, drop, length-append, length-drop}
+use lib.Bits.{bitOr}
+use lib.ListN.{length, getD, drop, length-append, length-drop}
 use Rattle.format.specs.Parsed.{Parsed, fail, got}
 use Rattle.format.specs.Read.{rest-at, drop-end}
 use Rattle.format.specs.Runs.{run, run-more, run-stop, run-none}
@@ -13,6 +14,7 @@ use Rattle.names.specs.Utf8.{utf8}
 use Rattle.names.specs.Char.{char, char-some}
 use Rattle.names.specs.Name.{isName, found}
 use Rattle.names.specs.Place.{endOf}
+use Rattle.names.proofs.Reading.{plain, or-left, or-right}
 
 -- a character at a place takes a byte at least
 taken : (s : List ℕ) (at c : ℕ) (r : List ℕ) → char .parse (drop at s) ≡ got c r → length r < length s - at
@@ -29,18 +31,36 @@ pub record Named (s : List ℕ) (at : ℕ) : Type 0 where
 pub named-none : (s : List ℕ) → Named s 0
 named-none s = record { same = refl; within = omega arith }
 
+-- a character is passed
+pass : (s : List ℕ) (at c end : ℕ) → at < length s → char .parse (drop at s) ≡ got c (drop end s) → isName (drop at s) ≡ isName (drop end s)
+unfolding isName
+pass s at c end h e = ap found (run-more char char-some (drop at s) c (drop end s) (omega (arith, length-drop at s)) e) ∙ go (run char (drop end s))
+  where
+    go : (o : Option (List ℕ)) → found (Option·map (λ (cs : List ℕ). c ∷ cs) o) ≡ found o
+    go none = refl
+    go (some cs) = refl
+
+pass-plain : (s : List ℕ) (i j : ℕ) → j ≡ i + 1 → i < length s → getD s i 0 < 0x80 → isName (drop i s) ≡ isName (drop j s)
+pass-plain s i j e h k = pass s i (getD s i 0) j h (plain s i h k ∙ ap (λ (n : ℕ). got (getD s i 0) (drop n s)) (sym e))
+
+-- four plain ones, by all their bits
+pub pass-four : (s : List ℕ) (i : ℕ) → i + 4 ≤ length s
+    → bitOr (bitOr (getD s i 0) (getD s (i + 1) 0)) (bitOr (getD s (i + 2) 0) (getD s (i + 3) 0)) < 0x80 → isName (drop i s) ≡ isName (drop (i + 4) s)
+pass-four s i h k =
+    let a = getD s i 0 in
+    let b = getD s (i + 1) 0 in
+    let c = getD s (i + 2) 0 in
+    let d = getD s (i + 3) 0 in
+    let l = or-left (bitOr a b) (bitOr c d) in
+    let r = or-right (bitOr a b) (bitOr c d) in
+    pass-plain s i (i + 1) refl (omega arith) (omega (arith, or-left a b))
+    ∙ pass-plain s (i + 1) (i + 2) (omega arith) (omega arith) (omega (arith, or-right a b))
+    ∙ pass-plain s (i + 2) (i + 3) (omega arith) (omega arith) (omega (arith, or-left c d))
+    ∙ pass-plain s (i + 3) (i + 4) (omega arith) (omega arith) (omega (arith, or-right c d))
+
 module _ {s : List ℕ} {at : ℕ} (n : Named s at) (h : at < length s) where
-  pub named-more : (c end : ℕ) → char .parse (drop at s) ≡ got c (drop end s) → end ≤ length s → Named s end
-  unfolding isName
-  named-more c end e k =
-      record {
-        same = n .same ∙ ap found (run-more char char-some (drop at s) c (drop end s) (omega (arith, length-drop at s)) e) ∙ go (run char (drop end s));
-        within = k;
-      }
-    where
-      go : (o : Option (List ℕ)) → found (Option·map (λ (cs : List ℕ). c ∷ cs) o) ≡ found o
-      go none = refl
-      go (some cs) = refl
+  pub named-plain : getD s at 0 < 0x80 → Named s (at + 1)
+  named-plain k = record { same = n .same ∙ pass-plain s at (at + 1) refl h k; within = omega arith }
 
   pub named-stop : char .parse (drop at s) ≡ fail → false ≡ isName s
   unfolding isName
@@ -65,7 +85,7 @@ module _ {s : List ℕ} {at : ℕ} (n : Named s at) (h : at < length s) where
       go fail p q = absurd (z q)
       go (got c r) p q =
           let (d, w) = rest-at char s at c r p in
-          record { next = named-more c end (p ∙ ap (got c) (d ∙ ap (λ (i : ℕ). drop i s) (sym q))) (omega arith); more = omega (arith, taken s at c r p) }
+          record { next = record { same = n .same ∙ pass s at c end h (p ∙ ap (got c) (d ∙ ap (λ (i : ℕ). drop i s) (sym q))); within = omega arith }; more = omega (arith, taken s at c r p) }
 
 pub named-done : {s : List ℕ} {at : ℕ} → Named s at → length s ≤ at → true ≡ isName s
 unfolding isName

@@ -3,9 +3,10 @@ use mathlib.Core.Path.{_≡_, refl, sym, ap, _∙_}
 use mathlib.Core.Logic.{_⊎_, inl, inr, ⊎-elim}
 use mathlib.Core.Bool.{Bool, true, false, cond, not, _&&_, true≢false}
 use mathlib.Core.List.{List}
-use Prim.Native.Nat.{ℕ, _+_, _-_, _≤_, _<_}
+use Prim.Native.Nat.{ℕ, _+_, _-_, _*_, _≤_, _<_, _^_}
 use native.Mathlib.Omega.{arith}
 use lib.Dec.{leb, ltb, eqb}
+use lib.Bits.{bitOr, bitXor, or-add-and, and-le-l, and-le-r, xor-block, xor-zero-r}
 use lib.ListN.{length, getD, drop, List·getD-eq-default}
 use borrow.Author.Tests.{lt-ltb, le-ltb, ltb-true, ltb-false, le-leb, lt-leb, eqb-true, eqb-false, ne-eqb}
 use Rattle.format.specs.Parsed.{fail, got}
@@ -42,6 +43,42 @@ told e q p = sym (ap isMore q) ∙ sym e ∙ p
 
 pub told-second : {r t : Bool} {x y b z : ℕ} → r ≡ between (lowest b) (past b) x → z ≡ b → x ≡ y → r ≡ t → between (lowest z) (past z) y ≡ t
 told-second {y = y} {b = b} e w q p = ap (λ (k : ℕ). between (lowest k) (past k) y) w ∙ sym (ap (λ (k : ℕ). between (lowest b) (past b) k) q) ∙ sym e ∙ p
+
+-- ---- several bytes at once
+
+pub or-left : (a b : ℕ) → a ≤ bitOr a b
+or-left a b = omega (arith, or-add-and a b, and-le-r a b)
+
+pub or-right : (a b : ℕ) → b ≤ bitOr a b
+or-right a b = omega (arith, or-add-and a b, and-le-l a b)
+
+-- with the highest bit turned over
+turn-high : (b : ℕ) → 0x80 ≤ b → b < 256 → bitXor b 0x80 ≡ b - 0x80
+turn-high b k h =
+    let e : b ≡ 1 * 2 ^ 7 + (b - 0x80) = omega arith in
+    let z = xor-zero-r (b - 0x80) in
+    ap (λ (n : ℕ). bitXor n 0x80) e ∙ xor-block 7 1 1 (b - 0x80) 0 (omega arith) (omega arith) ∙ ap (λ (n : ℕ). bitXor 1 1 * 2 ^ 7 + n) z ∙ omega arith
+
+turn-low : (b : ℕ) → b < 0x80 → bitXor b 0x80 ≡ 0x80 + b
+turn-low b k =
+    let e : b ≡ 0 * 2 ^ 7 + b = omega arith in
+    ap (λ (n : ℕ). bitXor n 0x80) e ∙ xor-block 7 0 1 b 0 k (omega arith) ∙ ap (λ (n : ℕ). bitXor 0 1 * 2 ^ 7 + n) (xor-zero-r b) ∙ omega arith
+
+pub turned : (b : ℕ) → b < 256 → isMore b ≡ ltb (bitXor b 0x80) 0x40
+turned b h =
+    ⊎-elim
+    (λ (k : 0x80 ≤ b). rw (turn-high b k h, le-ltb b 0x80 k) (⊎-elim
+    (λ (l : 0xC0 ≤ b). rw (le-ltb b 0xC0 l, le-ltb (b - 0x80) 0x40 (omega arith)))
+    (λ (l : b < 0xC0). rw (lt-ltb b 0xC0 l, lt-ltb (b - 0x80) 0x40 (omega arith)))
+    (fits-or 0xC0 b)))
+    (λ (k : b < 0x80). rw (turn-low b k, lt-ltb b 0x80 k, le-ltb (0x80 + b) 0x40 (omega arith)))
+    (fits-or 0x80 b)
+
+pub more-of : {t : Bool} (x : ℕ) → t ≡ ltb x 0x40 → x < 0x40 → t ≡ true
+more-of x p h = p ∙ lt-ltb x 0x40 h
+
+pub less-of : {t : Bool} (x : ℕ) → t ≡ ltb x 0x40 → t ≡ true → x < 0x40
+less-of x p m = ltb-true x 0x40 (sym p ∙ m)
 
 -- a byte that is not 0 is there
 there : (s : List ℕ) (i : ℕ) → 0 < getD s i 0 → i < length s
@@ -201,8 +238,11 @@ module _ (s : List ℕ) (at : ℕ) where
             let z : (0xD800 ≤ v3) × (v3 < 0xE000) = picked (past-three b l) (λ r e. (omega arith, omega arith)) (λ r e. absurd (omega arith)) in
             rw (le-leb 0x800 v3 (omega arith), le-leb 0xD800 v3 (z .0), lt-ltb v3 0xE000 (z .1))
 
-    pub three-third : isMore d ≡ false → 0 ≡ endOf s (three .parse (drop at s))
-    three-third m = none three (three-fail (λ o n. absurd (true≢false (sym n ∙ m))))
+    pub three-none : (isMore c ≡ true → isMore d ≡ true → ⊥) → 0 ≡ endOf s (three .parse (drop at s))
+    three-none f = none three (three-fail (λ o n. absurd (f o n)))
+
+    pub three-cut : length s < at + 3 → 0 ≡ endOf s (three .parse (drop at s))
+    three-cut h = three-none (λ o n. let (i, j) = between-true 0x80 0xC0 d n in omega (arith, there s (at + 2) (omega arith)))
 
   -- ---- four bytes
 
@@ -264,11 +304,11 @@ module _ (s : List ℕ) (at : ℕ) where
               let z : 0x110000 ≤ v4 = picked (past-four b k) (λ q r. omega arith) (λ q r. absurd (omega arith)) in
               rw (le-leb 0x10000 v4 (omega arith), le-ltb v4 0x110000 z)
 
-      pub four-third : isMore d ≡ false → 0 ≡ endOf s (four .parse (drop at s))
-      four-third m = none four (four-fail (λ o n w. absurd (true≢false (sym n ∙ m))))
+      pub four-none : (isMore c ≡ true → isMore d ≡ true → isMore e ≡ true → ⊥) → 0 ≡ endOf s (four .parse (drop at s))
+      four-none f = none four (four-fail (λ o n w. absurd (f o n w)))
 
-      pub four-fourth : isMore e ≡ false → 0 ≡ endOf s (four .parse (drop at s))
-      four-fourth m = none four (four-fail (λ o n w. absurd (true≢false (sym w ∙ m))))
+      pub four-cut : length s < at + 4 → 0 ≡ endOf s (four .parse (drop at s))
+      four-cut h = four-none (λ o n w. let (i, j) = between-true 0x80 0xC0 e w in omega (arith, there s (at + 3) (omega arith)))
 
       four-above : 0xF5 ≤ b → 0 ≡ endOf s (four .parse (drop at s))
       four-above h =

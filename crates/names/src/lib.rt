@@ -1,6 +1,7 @@
 // Names: whether bytes are UTF-8, in one pass over their characters.
 ghost use mathlib.Core.Path.{_≡_};
-ghost use Prim.Native.Nat.{_≤_, _<_};
+ghost use Prim.Native.Nat.{_+_, _≤_, _<_};
+ghost use lib.Dec.{ltb};
 ghost use lib.ListN.{length, getD, drop};
 ghost use Rattle.names.specs.Char.{two, three, four, wide};
 ghost use Rattle.names.specs.Name.{isName};
@@ -27,6 +28,13 @@ fn is_more(b: u8) -> bool
     ensures { λ r. ⌜ r ≡ between 0x80 0xC0 b ⌝ }
 {
     is_between(0x80, 0xC0, b)
+}
+
+// Below 0x40 where it is one: several are tested at once.
+fn above(b: u8) -> u8
+    ensures { λ r. ⌜ between 0x80 0xC0 b ≡ ltb r 0x40 ⌝ }
+{
+    b ^ 0x80
 }
 
 // A second byte of three or four, behind the first.
@@ -66,10 +74,15 @@ fn three_end(s: &[u8], at: usize, b: u8) -> usize
     requires { ⌜ (at < length (now s)) × (getD (now s) at 0 ≡ b) × (0xE0 ≤ b) × (b < 0xF0) ⌝ }
     ensures { λ r. ⌜ r ≡ endOf (now (s .entry)) (three .parse (drop at (now (s .entry)))) ⌝ }
 {
-    if is_second(b, byte(s, at + 1)) {
-        if is_more(byte(s, at + 2)) {
-            return at + 3;
-        }
+    if s.len() - at < 3 {
+        return 0;
+    }
+    let c = s[at + 1];
+    if 0x3F < (above(c) | above(s[at + 2])) {
+        return 0;
+    }
+    if is_second(b, c) {
+        return at + 3;
     }
     0
 }
@@ -81,12 +94,15 @@ fn four_end(s: &[u8], at: usize, b: u8) -> usize
     if 0xF4 < b {
         return 0;
     }
-    if is_second(b, byte(s, at + 1)) {
-        if is_more(byte(s, at + 2)) {
-            if is_more(byte(s, at + 3)) {
-                return at + 4;
-            }
-        }
+    if s.len() - at < 4 {
+        return 0;
+    }
+    let c = s[at + 1];
+    if 0x3F < (above(c) | (above(s[at + 2]) | above(s[at + 3]))) {
+        return 0;
+    }
+    if is_second(b, c) {
+        return at + 4;
     }
     0
 }
@@ -104,20 +120,47 @@ fn wide_end(s: &[u8], at: usize, b: u8) -> usize
     four_end(s, at, b)
 }
 
+// Four bytes in one: below 0x80 where each is.
+fn four_of(s: &[u8], i: usize) -> u8
+    requires { ⌜ i + 4 ≤ length (now s) ⌝ }
+    ensures { λ r. ⌜ (r < 0x80 → isName (drop i (now (s .entry))) ≡ isName (drop (i + 4) (now (s .entry)))) ⌝ }
+{
+    (s[i] | s[i + 1]) | (s[i + 2] | s[i + 3])
+}
+
+// The place behind plain bytes, eight at a time.
+fn eights_end(s: &[u8], at: usize) -> usize
+    requires { ⌜ at ≤ length (now s) ⌝ }
+    ensures { λ r. ⌜ (at ≤ r) × (r ≤ length (now (s .entry))) × (isName (drop at (now (s .entry))) ≡ isName (drop r (now (s .entry)))) ⌝ }
+{
+    let mut i = at;
+    while 8 <= s.len() - i {
+        if 0x7F < (four_of(s, i) | four_of(s, i + 4)) {
+            return i;
+        }
+        i += 8;
+    }
+    i
+}
+
+// Eights are tried behind a plain byte at each eighth place, so that no byte is looked at thrice.
 pub fn is_name(s: &[u8]) -> bool
     ensures { λ r. ⌜ r ≡ isName (now (s .entry)) ⌝ }
 {
     let mut at: usize = 0;
     while at < s.len() {
         let b = s[at];
-        if b < 0x80 {
-            at += 1;
-        } else {
+        if 0x7F < b {
             let end = wide_end(s, at, b);
             if end == 0 {
                 return false;
             }
             at = end;
+        } else {
+            at += 1;
+            if at % 8 == 0 {
+                at = eights_end(s, at);
+            }
         }
     }
     true
