@@ -23,13 +23,13 @@ taken s at c r e =
     let l : length (drop at s) ≡ length (utf8 c) + length r = ap length (o .1) ∙ length-append (utf8 c) r in
     omega (arith, char-some c (o .0), length-drop at s)
 
--- what is before place `at` of s is characters
-pub record Named (s : List ℕ) (at : ℕ) : Type 0 where
-  pub same : isName s ≡ isName (drop at s)
+-- what is before place `at` of s, from a place on, is characters
+pub record Named (s : List ℕ) (from at : ℕ) : Type 0 where
+  pub same : isName (drop from s) ≡ isName (drop at s)
   pub within : at ≤ length s
 
-pub named-none : (s : List ℕ) → Named s 0
-named-none s = record { same = refl; within = omega arith }
+pub named-none : (s : List ℕ) (from : ℕ) → from ≤ length s → Named s from from
+named-none s from h = record { same = refl; within = h }
 
 -- a character is passed
 pass : (s : List ℕ) (at c end : ℕ) → at < length s → char .parse (drop at s) ≡ got c (drop end s) → isName (drop at s) ≡ isName (drop end s)
@@ -58,11 +58,11 @@ pass-four s i h k =
     ∙ pass-plain s (i + 2) (i + 3) (omega arith) (omega arith) (omega (arith, or-left c d))
     ∙ pass-plain s (i + 3) (i + 4) (omega arith) (omega arith) (omega (arith, or-right c d))
 
-module _ {s : List ℕ} {at : ℕ} (n : Named s at) (h : at < length s) where
-  pub named-plain : getD s at 0 < 0x80 → Named s (at + 1)
+module _ {s : List ℕ} {from at : ℕ} (n : Named s from at) (h : at < length s) where
+  pub named-plain : getD s at 0 < 0x80 → Named s from (at + 1)
   named-plain k = record { same = n .same ∙ pass-plain s at (at + 1) refl h k; within = omega arith }
 
-  pub named-stop : char .parse (drop at s) ≡ fail → false ≡ isName s
+  pub named-stop : char .parse (drop at s) ≡ fail → false ≡ isName (drop from s)
   unfolding isName
   named-stop e = sym (n .same ∙ ap found (run-stop char char-some (drop at s) (omega (arith, length-drop at s)) e))
 
@@ -75,7 +75,7 @@ module _ {s : List ℕ} {at : ℕ} (n : Named s at) (h : at < length s) where
       go (got c r) p q = absurd (omega (arith, taken s at c r p))
 
   pub record Ends (end : ℕ) : Type 0 where
-    pub next : Named s end
+    pub next : Named s from end
     pub more : at < end
 
   pub end-some : {end : ℕ} → end ≡ endOf s (char .parse (drop at s)) → (end ≡ 0 → ⊥) → Ends end
@@ -87,6 +87,6 @@ module _ {s : List ℕ} {at : ℕ} (n : Named s at) (h : at < length s) where
           let (d, w) = rest-at char s at c r p in
           record { next = record { same = n .same ∙ pass s at c end h (p ∙ ap (got c) (d ∙ ap (λ (i : ℕ). drop i s) (sym q))); within = omega arith }; more = omega (arith, taken s at c r p) }
 
-pub named-done : {s : List ℕ} {at : ℕ} → Named s at → length s ≤ at → true ≡ isName s
+pub named-done : {s : List ℕ} {from at : ℕ} → Named s from at → length s ≤ at → true ≡ isName (drop from s)
 unfolding isName
-named-done {s} {at} n h = sym (n .same ∙ ap (λ (r : List ℕ). found (run char r)) (drop-end s at h) ∙ ap found (run-none char char-some))
+named-done {s} {from} {at} n h = sym (n .same ∙ ap (λ (r : List ℕ). found (run char r)) (drop-end s at h) ∙ ap found (run-none char char-some))

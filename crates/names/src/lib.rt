@@ -143,11 +143,12 @@ fn eights_end(s: &[u8], at: usize) -> usize
     i
 }
 
-// Eights are tried behind a plain byte at each eighth place, so that no byte is looked at thrice.
-pub fn is_name(s: &[u8]) -> bool
-    ensures { λ r. ⌜ r ≡ isName (now (s .entry)) ⌝ }
+// Whether what stands from a place on is a name's bytes. Eights are tried behind a plain byte at each eighth place, so that no byte is looked at thrice.
+fn is_name_from(s: &[u8], from: usize) -> bool
+    requires { ⌜ from ≤ length (now s) ⌝ }
+    ensures { λ r. ⌜ r ≡ isName (drop from (now (s .entry))) ⌝ }
 {
-    let mut at: usize = 0;
+    let mut at = from;
     while at < s.len() {
         let b = s[at];
         if 0x7F < b {
@@ -164,4 +165,13 @@ pub fn is_name(s: &[u8]) -> bool
         }
     }
     true
+}
+
+pub fn is_name(s: &[u8]) -> bool
+    ensures { λ r. ⌜ r ≡ isName (now (s .entry)) ⌝ }
+{
+    if byte(s, 0) < 0x80 {
+        return is_name_from(s, eights_end(s, 0));
+    }
+    is_name_from(s, 0)
 }
