@@ -6,7 +6,7 @@ use mathlib.Core.Bool.{Bool, true, false, cond, _&&_}
 use Prim.Native.Nat.{ℕ, _+_, _-_, _*_, _/_, _%_, _≤_, _<_, _^_}
 use native.Mathlib.Nat.{mul-assoc, add-mul, mul-comm, mod-lt, div-lt-iff-lt-mul, div-eq-of-lt}
 use native.Mathlib.Omega.{arith}
-use borrow.Author.Tests.{lt-ltb, le-ltb, eq-eqb, ne-eqb, le-leb, lt-leb}
+use borrow.Author.Tests.{lt-ltb, le-ltb, eq-eqb, ne-eqb, eqb-true, eqb-false, le-leb, lt-leb}
 use lib.Arith.{digits-lt, digits-div}
 use lib.Bits.{bitAnd, bitOr, bitXor, and-mask, or-shifted, or-shifted-r}
 use lib.Dec.{ltb, eqb, leb as isLe}
@@ -27,6 +27,14 @@ none-above b k e = let h : b < 1 * 2 ^ k = div-lt-iff-lt-mul (pow-pos k) .0 (ome
 
 pub some-above : (b k : ℕ) → (b / 2 ^ k ≡ 0 → ⊥) → 2 ^ k ≤ b
 some-above b k n = ⊎-elim (λ (h : 2 ^ k ≤ b). h) (λ (h : b < 2 ^ k). absurd (n (div-eq-of-lt h))) (fits-or (2 ^ k) b)
+
+-- as a test
+pub above-test : (b k : ℕ) → eqb (b / 2 ^ k) 0 ≡ ltb b (2 ^ k)
+above-test b k = go (eqb (b / 2 ^ k) 0) refl
+  where
+    go : (t : Bool) → eqb (b / 2 ^ k) 0 ≡ t → t ≡ ltb b (2 ^ k)
+    go true e = sym (lt-ltb b (2 ^ k) (none-above b k (eqb-true (b / 2 ^ k) 0 e)))
+    go false e = sym (le-ltb b (2 ^ k) (some-above b k (eqb-false (b / 2 ^ k) 0 e)))
 
 -- ---- groups put together
 

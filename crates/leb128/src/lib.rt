@@ -4,6 +4,7 @@ mod reader;
 mod writer;
 
 pub use reader::decode;
+pub use reader::is_within;
 pub use writer::encode;
 pub use writer::size;
 

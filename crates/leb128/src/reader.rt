@@ -78,6 +78,18 @@ fn value_bits(signed: bool, bits: u32) -> u32
     if signed { bits - 1 } else { bits }
 }
 
+// Whether a last byte is within the width, with so many bits left for it.
+pub fn is_within(signed: bool, bits: u32, b: u8) -> bool
+    requires { ⌜ (1 ≤ bits) × (b < 128) ⌝ }
+    ensures { λ r. ⌜ r ≡ within signed bits (lastOf signed b) ⌝ }
+{
+    if 7 <= bits {
+        return true;
+    }
+    let top = b ^ flip(sign(signed, b));
+    top >> value_bits(signed, bits) == 0
+}
+
 // The last byte that the width allows, with so many bits left for it.
 fn last(signed: bool, bits: u32, b: u8, low: u64, shift: u32, end: usize) -> Parts
     requires { ⌜ (1 ≤ bits) × (bits < 7) × (bits + shift ≤ 64) × (shift % 7 ≡ 0) × (low < 2 ^ shift) × (b < 128) ⌝ }

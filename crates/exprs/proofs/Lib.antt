@@ -1,0 +1,2 @@
+-- What the proofs of `exprs` share.
+pub mod Steps

@@ -1,0 +1,4 @@
+-- Constant expressions: their grammar, and where the first one of some bytes ends.
+pub mod Grammar
+pub mod Scan
+pub mod Laws
