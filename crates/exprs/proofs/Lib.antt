@@ -1,2 +1,3 @@
 -- What the proofs of `exprs` share.
 pub mod Steps
+pub mod Making

@@ -2,3 +2,4 @@
 pub mod Grammar
 pub mod Scan
 pub mod Laws
+pub mod Const

@@ -1,7 +1,10 @@
-// Constant expressions: where the first one at the front of some bytes ends.
+// Constant expressions: where the first one at the front of some bytes ends, and two that are made from a number.
+use format::Written;
 ghost use mathlib.Core.Path.{_≡_};
 ghost use Prim.Native.Nat.{_<_};
 ghost use lib.ListN.{drop};
+ghost use Rattle.format.specs.Write.{Writes};
+ghost use Rattle.exprs.specs.Const.{constOf};
 ghost use Rattle.exprs.specs.Scan.{codes, lookup, opcode as opcodeOf, numberLeft, heapLeft, operand as operandOf, exprEnd, answer};
 
 // Where the first expression ends, or that none begins the bytes.
@@ -172,4 +175,34 @@ pub fn check_expr(s: &[u8]) -> u32
         return 0;
     }
     5
+}
+
+// An instruction with a signed number, and 0B. The number is lent all but the first byte and the last, so that a refusal changes nothing.
+fn put_const(op: u8, v: i64, out: &mut [u8]) -> Written
+    ensures { λ r. ⌜ Writes (constOf op v) (now (out .entry)) (now (out .exit)) r ⌝ }
+{
+    if out.len() < 2 {
+        return Written::Short;
+    }
+    let end = out.len() - 1;
+    match numbers::encode_i64(v, &mut out[1..end]) {
+        Written::Length(n) => {
+            out[0] = op;
+            out[n + 1] = 0x0B;
+            Written::Length(n + 2)
+        }
+        Written::Short => Written::Short,
+    }
+}
+
+pub fn i32_const(v: i32, out: &mut [u8]) -> Written
+    ensures { λ r. ⌜ Writes (constOf 0x41 v) (now (out .entry)) (now (out .exit)) r ⌝ }
+{
+    put_const(0x41, v as i64, out)
+}
+
+pub fn i64_const(v: i64, out: &mut [u8]) -> Written
+    ensures { λ r. ⌜ Writes (constOf 0x42 v) (now (out .entry)) (now (out .exit)) r ⌝ }
+{
+    put_const(0x42, v, out)
 }

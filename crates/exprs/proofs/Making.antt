@@ -1,0 +1,60 @@
+-- A number in the middle of a buffer, with a byte before and one behind it. Assumes nothing.
+use mathlib.Core.Path.{_≡_, refl, sym, ap, subst, _∙_}
+use mathlib.Core.List.{List, [], _∷_, _++_, append-assoc}
+use Prim.Native.Nat.{ℕ, suc, _+_, _-_, _≤_, _<_}
+use native.Mathlib.Omega.{arith}
+use lib.ListN.{length, take, drop, getD, set, length-append, length-drop, take-append-drop}
+use lib.Seq.{drop-append-le, drop-cons, length-take-le, set-append-seam}
+use borrow.Rule.Slice.PartMut.{putMid, midOf, put-same}
+use Rattle.format.specs.Write.{Writes, writes, writes-not, told-length, told-short, over}
+use Rattle.format.specs.declared.Written.the-variants.{Length, Short}
+
+-- what stands behind the first k of n bytes, and behind those n
+behind : (k n : ℕ) (l : List ℕ) → k ≤ n → n ≤ length l → drop k (take n l) ++ drop n l ≡ drop k l
+behind k n l h m =
+    let q : k ≤ length (take n l) = omega (arith, length-take-le n l m) in
+    sym (drop-append-le k (take n l) (drop n l) q) ∙ ap (drop k) (take-append-drop n l)
+
+pub made : (op : ℕ) (b : List ℕ) (x : ℕ) (l zs : List ℕ) (n k : ℕ) → n + 1 ≡ length l → Writes b (midOf 1 n (x ∷ l)) zs (Length k)
+    → set (set (putMid 1 n (x ∷ l) zs) 0 op) (k + 1) 0x0B ≡ over (op ∷ (b ++ (0x0B ∷ []))) (x ∷ l)
+made op b x l zs n k h w =
+    let (e, r, z) = told-length w refl in
+    let m : length b ≤ n = omega (arith, length-take-le n l (omega arith)) in
+    let t : zs ++ drop n l ≡ b ++ drop (length b) l =
+    ap (λ (q : List ℕ). q ++ drop n l) z ∙ append-assoc b (drop (length b) (take n l)) (drop n l) ∙ ap (λ (q : List ℕ). b ++ q) (behind (length b) n l m (omega arith)) in
+    let d : drop (length b) l ≡ getD l (length b) 0 ∷ drop (suc (length b)) l = drop-cons l (length b) 0 (omega arith) in
+    let i : k + 1 ≡ suc (length b) = omega arith in
+    let j : length (b ++ (0x0B ∷ [])) ≡ suc (length b) = length-append b (0x0B ∷ []) ∙ omega arith in
+    let left : set (zs ++ drop n l) (length b) 0x0B ≡ b ++ (0x0B ∷ drop (suc (length b)) l) =
+    ap (λ (q : List ℕ). set q (length b) 0x0B) (t ∙ ap (λ (q : List ℕ). b ++ q) d) ∙ set-append-seam b (getD l (length b) 0) (drop (suc (length b)) l) 0x0B in
+    let right : (b ++ (0x0B ∷ [])) ++ drop (length (b ++ (0x0B ∷ []))) l ≡ b ++ (0x0B ∷ drop (suc (length b)) l) =
+    append-assoc b (0x0B ∷ []) (drop (length (b ++ (0x0B ∷ []))) l) ∙ ap (λ (q : ℕ). b ++ (0x0B ∷ drop q l)) j in
+    ap (λ (q : ℕ). set (op ∷ (zs ++ drop n l)) q 0x0B) i ∙ ap (λ (q : List ℕ). op ∷ q) (left ∙ sym right)
+
+-- the byte before and the byte behind
+abbrev around : ℕ → List ℕ → List ℕ
+around op b = op ∷ (b ++ (0x0B ∷ []))
+
+around-long : (op : ℕ) (b : List ℕ) → length (around op b) ≡ length b + 2
+around-long op b = omega (arith, length-append b (0x0B ∷ []))
+
+mid-long : (n : ℕ) (xs : List ℕ) → 2 ≤ length xs → n ≡ length xs - 1 - 1 → length (midOf 1 n xs) ≡ n
+mid-long n xs h e = length-take-le n (drop 1 xs) (omega (arith, length-drop 1 xs))
+
+pub made-too : (op : ℕ) (b xs : List ℕ) (n k : ℕ) {zs : List ℕ} → 2 ≤ length xs → n ≡ length xs - 1 - 1 → Writes b (midOf 1 n xs) zs (Length k)
+    → Writes (around op b) xs (set (set (putMid 1 n xs zs) 0 op) (k + 1) 0x0B) (Length (k + 2))
+made-too op b [] n k h e w = absurd (omega arith)
+made-too op b (x ∷ l) n k {zs} h e w =
+    let (p, r, _) = told-length w refl in
+    let q = around-long op b in
+    writes (omega (arith, mid-long n (x ∷ l) h e)) (omega arith) (made op b x l zs n k (omega arith) w)
+
+pub made-not : (op : ℕ) (b xs : List ℕ) (n : ℕ) {zs : List ℕ} → 2 ≤ length xs → n ≡ length xs - 1 - 1 → Writes b (midOf 1 n xs) zs Short
+    → Writes (around op b) xs (putMid 1 n xs zs) Short
+made-not op b xs n {zs} h e w =
+    let (p, z) = told-short w refl in
+    let same : xs ≡ putMid 1 n xs zs = sym (ap (putMid 1 n xs) z ∙ put-same 1 n xs) in
+    subst (λ (ys : List ℕ). Writes (around op b) xs ys Short) same (writes-not (omega (arith, around-long op b, mid-long n xs h e)))
+
+pub made-small : (op : ℕ) (b xs : List ℕ) → length xs < 2 → Writes (around op b) xs xs Short
+made-small op b xs h = writes-not (omega (arith, around-long op b))
