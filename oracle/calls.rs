@@ -1,4 +1,4 @@
-// Answers the oracle's calls (src/entries.rs) by the proved functions, those that there are so far: finish, write, number. One line in, one line out; other
+// Answers the oracle's calls (src/entries.rs) by the proved functions, those that there are so far: finish, write, number, check, const. One line in, one line out; other
 // calls are answered by a blank line. A refusal that leaves a byte changed, or a length beside it, ends the program.
 use std::io::{read_to_string, stdin};
 
@@ -11,6 +11,9 @@ extern "C" {
     fn thriftbell_decode_u64(s: *const u8, len: usize, at: usize, value: *mut u64) -> usize;
     fn thriftbell_decode_i32(s: *const u8, len: usize, at: usize, value: *mut i32) -> usize;
     fn thriftbell_decode_i64(s: *const u8, len: usize, at: usize, value: *mut i64) -> usize;
+    fn thriftbell_check_expr(s: *const u8, len: usize) -> u32;
+    fn thriftbell_i32_const(v: i32, out: *mut u8, len: usize) -> usize;
+    fn thriftbell_i64_const(v: i64, out: *mut u8, len: usize) -> usize;
     fn thriftbell_finish(used: usize, store: *const u8, store_len: usize, order: *const u8, order_len: usize, count: u32, out: *mut u8, out_len: usize, length: *mut usize) -> u32;
 }
 
@@ -36,6 +39,21 @@ fn finish(used: usize, length: usize, store: &str, order: &str, count: u32, out:
     };
     kept(&out, n);
     if answer == 0 { format!("00 {}", shown(&out[..n])) } else { assert_eq!(n, 0); format!("{answer:02X}") }
+}
+
+fn check(bytes: &str) -> String {
+    let bytes = unhex(bytes);
+    format!("{:02X}", unsafe { thriftbell_check_expr(bytes.as_ptr(), bytes.len()) })
+}
+
+fn constant(ty: &str, value: &str, out: usize) -> String {
+    let mut room = vec![0xA5u8; out];
+    let n = match ty {
+        "i32" => unsafe { thriftbell_i32_const(value.parse().unwrap(), room.as_mut_ptr(), out) },
+        _ => unsafe { thriftbell_i64_const(value.parse().unwrap(), room.as_mut_ptr(), out) },
+    };
+    kept(&room, n);
+    if n == 0 { "0A".into() } else { format!("00 {}", shown(&room[..n])) }
 }
 
 macro_rules! number {
@@ -75,6 +93,8 @@ fn main() {
             }
             ["write", ty, value, out] => number(ty, Ok((value, out.parse().unwrap()))),
             ["number", ty, bytes] => number(ty, Err(bytes)),
+            ["check", bytes] => check(bytes),
+            ["const", ty, value, out] => constant(ty, value, out.parse().unwrap()),
             _ => String::new(),
         });
     }

@@ -134,3 +134,18 @@ pub extern "C" fn thriftbell_finish(
 pub extern "C" fn thriftbell_is_name(s: &[u8]) -> bool {
     names::is_name(s)
 }
+
+#[no_mangle]
+pub extern "C" fn thriftbell_check_expr(s: &[u8]) -> u32 {
+    exprs::check_expr(s)
+}
+
+#[no_mangle]
+pub extern "C" fn thriftbell_i32_const(v: i32, out: &mut [u8]) -> usize {
+    length(exprs::i32_const(v, out))
+}
+
+#[no_mangle]
+pub extern "C" fn thriftbell_i64_const(v: i64, out: &mut [u8]) -> usize {
+    length(exprs::i64_const(v, out))
+}
