@@ -3,3 +3,4 @@ pub mod Grammar
 pub mod Scan
 pub mod Laws
 pub mod Const
+pub mod Checked
