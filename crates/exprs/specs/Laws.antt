@@ -19,7 +19,7 @@ use Rattle.leb128.specs.Leb.{unsigned, signed, within, lastOf, join, wide}
 use Rattle.leb128.specs.LebLaws.{wide-form}
 use Rattle.leb128.specs.Standard.{u-wide, wide-u, s-wide, wide-s}
 use Rattle.exprs.specs.Grammar.{Bytes, Instr, i32-const, i64-const, f32-const, f64-const, global-get, ref-null, ref-func, i32-add, i32-sub, i32-mul, i64-add, i64-sub, i64-mul, Expr, stop, more}
-use Rattle.exprs.specs.Scan.{Code, codes, lookup, opcode, rawLeft, numberLeft, heapLeft, operand, plus, still, next, onward, scan, exprEnd}
+use Rattle.exprs.specs.Scan.{Code, codes, lookup, opcode, rawLeft, numberLeft, isHeap, operand, plus, still, next, onward, scan, exprEnd}
 use Rattle.exprs.specs.declared.Next.{Next}
 use Rattle.exprs.specs.declared.Next.the-variants.{End, Bad, Operand}
 use Rattle.exprs.specs.declared.ExprEnd.{ExprEnd}
@@ -59,8 +59,8 @@ both-true false b e = absurd (true≢false (sym e))
 -- ---- numbers: the scan goes as their reading does
 
 abbrev kindOf : Bool → ℕ
-kindOf false = 1
-kindOf true = 2
+kindOf false = 2
+kindOf true = 3
 
 -- behind what was read of l
 abbrev after : List ℕ → Parsed ℤ → ExprEnd
@@ -69,8 +69,8 @@ after l (got z r) = plus (length l - length r) (scan 0 0 r)
 
 number-next : (s : Bool) (n b : ℕ) → 0 < n → next (kindOf s) n b ≡ still (kindOf s) (numberLeft s n b)
 unfolding operand
-number-next false n b h = inside 1 n b h
-number-next true n b h = inside 2 n b h
+number-next false n b h = inside 2 n b h
+number-next true n b h = inside 3 n b h
 
 -- what one byte of a number leads to
 module _ (s : Bool) (n b : ℕ) (h : 0 < n) (t : List ℕ) where
@@ -124,16 +124,16 @@ number-scan s (b ∷ t) n h = go (ltb b 128) refl (within s n (lastOf s b)) refl
 -- o is an operand, by its kind and amount
 data Takes : ℕ → ℕ → List ℕ → Type 0 where
   takes-bytes : (n : ℕ) (o : List ℕ) → Bytes n o → Takes 0 n o
-  takes-unsigned : (n : ℕ) (o : List ℕ) (x : ℕ) → 0 < n → U n o x → Takes 1 n o
-  takes-signed : (n : ℕ) (o : List ℕ) (z : ℤ) → 0 < n → S n o z → Takes 2 n o
-  takes-heap : (b : ℕ) → 0x68 ≤ b → b ≤ 0x75 → Takes 3 1 (b ∷ [])
+  takes-unsigned : (n : ℕ) (o : List ℕ) (x : ℕ) → 0 < n → U n o x → Takes 2 n o
+  takes-signed : (n : ℕ) (o : List ℕ) (z : ℤ) → 0 < n → S n o z → Takes 3 n o
+  takes-heap : (b : ℕ) → 0x68 ≤ b → b ≤ 0x75 → Takes 1 1 (b ∷ [])
 
-byte-next : (n b : ℕ) → 0 < n → b < 256 → next 0 n b ≡ Operand 0 (n - 1)
+pub byte-next : (n b : ℕ) → 0 < n → b < 256 → next 0 n b ≡ Operand 0 (n - 1)
 unfolding operand rawLeft
 byte-next n b h k = inside 0 n b h ∙ rw (lt-ltb b 256 k)
 
-heap-next : (b : ℕ) → 0x68 ≤ b → b ≤ 0x75 → next 3 1 b ≡ Operand 3 0
-unfolding operand heapLeft
+heap-next : (b : ℕ) → 0x68 ≤ b → b ≤ 0x75 → next 1 1 b ≡ Operand 1 0
+unfolding operand isHeap
 heap-next b h k = rw (le-ltb b 0x68 h, lt-ltb b 0x76 (omega arith))
 
 pass-bytes : (n : ℕ) (o r : List ℕ) → length o ≡ n → All (λ b. b < 2 ^ 8) o → scan 0 n (o ++ r) ≡ plus (length o) (scan 0 0 r)
@@ -154,7 +154,7 @@ pass : {k n : ℕ} {o : List ℕ} → Takes k n o → (r : List ℕ) → scan k 
 pass (takes-bytes n o h) r = pass-bytes n o r (h .long) (h .each)
 pass (takes-unsigned n o x h u) r = pass-number unsigned n o r (pos x) h (u-wide u r)
 pass (takes-signed n o z h u) r = pass-number signed n o r z h (s-wide u r)
-pass (takes-heap b h k) r = go-on 3 1 b 3 0 r (heap-next b h k) ∙ ap (plus 1) (no-kind 3 r)
+pass (takes-heap b h k) r = go-on 1 1 b 1 0 r (heap-next b h k) ∙ ap (plus 1) (no-kind 1 r)
 
 -- ---- complete
 
@@ -168,13 +168,13 @@ none-taken = takes-bytes 0 [] (record { long = refl; each = tt })
 
 instr-passed : {a : List ℕ} → Instr a → (r : List ℕ) → scan 0 0 (a ++ r) ≡ plus (length a) (scan 0 0 r)
 unfolding opcode
-instr-passed (i32-const o z u) r = pass-instr 0x41 2 32 o r refl (takes-signed 32 o z (omega arith) u)
-instr-passed (i64-const o z u) r = pass-instr 0x42 2 64 o r refl (takes-signed 64 o z (omega arith) u)
+instr-passed (i32-const o z u) r = pass-instr 0x41 3 32 o r refl (takes-signed 32 o z (omega arith) u)
+instr-passed (i64-const o z u) r = pass-instr 0x42 3 64 o r refl (takes-signed 64 o z (omega arith) u)
 instr-passed (f32-const o h) r = pass-instr 0x43 0 4 o r refl (takes-bytes 4 o h)
 instr-passed (f64-const o h) r = pass-instr 0x44 0 8 o r refl (takes-bytes 8 o h)
-instr-passed (global-get o x u) r = pass-instr 0x23 1 32 o r refl (takes-unsigned 32 o x (omega arith) u)
-instr-passed (ref-null b h k) r = pass-instr 0xD0 3 1 (b ∷ []) r refl (takes-heap b h k)
-instr-passed (ref-func o x u) r = pass-instr 0xD2 1 32 o r refl (takes-unsigned 32 o x (omega arith) u)
+instr-passed (global-get o x u) r = pass-instr 0x23 2 32 o r refl (takes-unsigned 32 o x (omega arith) u)
+instr-passed (ref-null b h k) r = pass-instr 0xD0 1 1 (b ∷ []) r refl (takes-heap b h k)
+instr-passed (ref-func o x u) r = pass-instr 0xD2 2 32 o r refl (takes-unsigned 32 o x (omega arith) u)
 instr-passed i32-add r = pass-instr 0x6A 0 0 [] r refl none-taken
 instr-passed i32-sub r = pass-instr 0x6B 0 0 [] r refl none-taken
 instr-passed i32-mul r = pass-instr 0x6C 0 0 [] r refl none-taken
@@ -228,14 +228,14 @@ cut-number s n h l j e = go (wide s n l) refl (sym (number-scan s l n h) ∙ e)
     go fail p q = absurd (nothing-at j refl q)
     go (got z r) p q = let v = plus-inv (length l - length r) (scan 0 0 r) j q in (z, r, v .0, p, v .1, v .2)
 
-cut-unsigned : (n : ℕ) → 0 < n → (l : List ℕ) (j : ℕ) → scan 1 n l ≡ At j → Cut (λ o. (x : ℕ) × U n o x) l j
+cut-unsigned : (n : ℕ) → 0 < n → (l : List ℕ) (j : ℕ) → scan 2 n l ≡ At j → Cut (λ o. (x : ℕ) × U n o x) l j
 cut-unsigned n h l j e =
     let (z, r, i, p, q, d) = cut-number unsigned n h l j e in
     let w = wide-u n l z r p in
     let k : length l ≡ length (w .bytes) + length r = ap length (w .front) ∙ length-append (w .bytes) r in
     record { front = w .bytes; rest = r; end = i; holds = (w .stands .value, w .stands .grammar); split = w .front; scanned = q; long = omega arith }
 
-cut-signed : (n : ℕ) → 0 < n → (l : List ℕ) (j : ℕ) → scan 2 n l ≡ At j → Cut (λ o. (z : ℤ) × S n o z) l j
+cut-signed : (n : ℕ) → 0 < n → (l : List ℕ) (j : ℕ) → scan 3 n l ≡ At j → Cut (λ o. (z : ℤ) × S n o z) l j
 cut-signed n h l j e =
     let (z, r, i, p, q, d) = cut-number signed n h l j e in
     let w = wide-s n l z r p in
@@ -258,24 +258,24 @@ cut-bytes (suc n) (b ∷ l) j e = ⊎-elim (λ (h : 256 ≤ b). absurd (nothing-
         cut-byte 0 (suc n) b 0 n l j (byte-next (suc n) b (omega arith) h ∙ ap (Operand 0) q)
         (λ i d. cut-as (λ o p. record { long = ap suc (p .long); each = (h, p .each) }) (f i d)) e
 
-heap-wrong : (b : ℕ) → (b < 0x68) ⊎ (0x76 ≤ b) → next 3 1 b ≡ Bad
-unfolding operand heapLeft
+heap-wrong : (b : ℕ) → (b < 0x68) ⊎ (0x76 ≤ b) → next 1 1 b ≡ Bad
+unfolding operand isHeap
 heap-wrong b (inl h) = rw (lt-ltb b 0x68 h)
 heap-wrong b (inr h) = rw (le-ltb b 0x68 (omega arith), le-ltb b 0x76 h)
 
 abbrev Heap : List ℕ → Type 0
 Heap o = (b : ℕ) × (0x68 ≤ b) × (b ≤ 0x75) × (o ≡ b ∷ [])
 
-cut-heap : (l : List ℕ) (j : ℕ) → scan 3 1 l ≡ At j → Cut Heap l j
+cut-heap : (l : List ℕ) (j : ℕ) → scan 1 1 l ≡ At j → Cut Heap l j
 unfolding scan
 cut-heap [] j e = absurd (nothing-at j refl e)
 cut-heap (b ∷ l) j e = ⊎-elim (λ (h : 0x68 ≤ b). ⊎-elim (λ (k : 0x76 ≤ b). wrong (inr k)) (λ (k : b < 0x76). right h k) (fits-or 0x76 b)) (λ (h : b < 0x68). wrong (inl h)) (fits-or 0x68 b)
   where
     wrong : (b < 0x68) ⊎ (0x76 ≤ b) → Cut Heap (b ∷ l) j
-    wrong h = absurd (nothing-at j (go-wrong 3 1 b l (heap-wrong b h)) e)
+    wrong h = absurd (nothing-at j (go-wrong 1 1 b l (heap-wrong b h)) e)
 
     right : 0x68 ≤ b → b < 0x76 → Cut Heap (b ∷ l) j
-    right h k = cut-byte 3 1 b 3 0 l j (heap-next b h (omega arith)) (λ i d. cut-none l i (b, h, omega arith, refl) (sym (no-kind 3 l) ∙ d)) e
+    right h k = cut-byte 1 1 b 1 0 l j (heap-next b h (omega arith)) (λ i d. cut-none l i (b, h, omega arith, refl) (sym (no-kind 1 l) ∙ d)) e
 
 -- what an instruction's first byte leads to makes an instruction, or ends the expression
 abbrev Leads : ℕ → Next → Type 0

@@ -1,11 +1,11 @@
 // Constant expressions: where the first one at the front of some bytes ends, and two that are made from a number.
 use format::Written;
 ghost use mathlib.Core.Path.{_≡_};
-ghost use Prim.Native.Nat.{_<_};
-ghost use lib.ListN.{drop};
+ghost use Prim.Native.Nat.{_≤_, _<_};
+ghost use lib.ListN.{length, drop};
 ghost use Rattle.format.specs.Write.{Writes};
 ghost use Rattle.exprs.specs.Const.{constOf};
-ghost use Rattle.exprs.specs.Scan.{codes, lookup, opcode as opcodeOf, numberLeft, heapLeft, operand as operandOf, exprEnd, answer};
+ghost use Rattle.exprs.specs.Scan.{codes, lookup, opcode as opcodeOf, numberLeft, isHeap, Passed, exprEnd, answer};
 
 // Where the first expression ends, or that none begins the bytes.
 pub enum ExprEnd {
@@ -59,10 +59,10 @@ fn opcode(b: u8) -> Next
         return Next::End;
     }
     if b == 0x41 {
-        return Next::Operand(2, 32);
+        return Next::Operand(3, 32);
     }
     if b == 0x42 {
-        return Next::Operand(2, 64);
+        return Next::Operand(3, 64);
     }
     if b == 0x43 {
         return Next::Operand(0, 4);
@@ -71,13 +71,13 @@ fn opcode(b: u8) -> Next
         return Next::Operand(0, 8);
     }
     if b == 0x23 {
-        return Next::Operand(1, 32);
+        return Next::Operand(2, 32);
     }
     if b == 0xD0 {
-        return Next::Operand(3, 1);
+        return Next::Operand(1, 1);
     }
     if b == 0xD2 {
-        return Next::Operand(1, 32);
+        return Next::Operand(2, 32);
     }
     arithmetic(b)
 }
@@ -99,33 +99,34 @@ fn number_left(signed: bool, n: u32, b: u8) -> Left
     Left::Wrong
 }
 
-// A heap type is one byte.
-fn heap_left(b: u8) -> Left
-    ensures { λ r. ⌜ r ≡ heapLeft b ⌝ }
+// An abstract heap type is one byte.
+fn is_heap(b: u8) -> bool
+    ensures { λ r. ⌜ r ≡ isHeap b ⌝ }
 {
     if b < 0x68 {
-        return Left::Wrong;
+        return false;
     }
-    if b < 0x76 {
-        return Left::Still(0);
-    }
-    Left::Wrong
+    b < 0x76
 }
 
-fn operand(k: u8, n: u32, b: u8) -> Left
-    requires { ⌜ 0 < n ⌝ }
-    ensures { λ r. ⌜ r ≡ operandOf k n b ⌝ }
+// Where an operand that is no number ends. Bytes are passed unseen: those that are missing are missed at the next instruction.
+fn plain_end(k: u8, n: u32, s: &[u8], i: usize) -> ExprEnd
+    requires { ⌜ (k < 2) × (i ≤ length (now s)) ⌝ }
+    ensures { λ r. ⌜ Passed k n (now (s .entry)) i r ⌝ }
 {
     if k == 0 {
-        return Left::Still(n - 1);
+        return ExprEnd::At(i + n as usize);
     }
-    if k == 1 {
-        return number_left(false, n, b);
+    if n == 0 {
+        return ExprEnd::At(i);
     }
-    if k == 2 {
-        return number_left(true, n, b);
+    if s.len() <= i {
+        return ExprEnd::Nothing;
     }
-    heap_left(b)
+    if is_heap(s[i]) {
+        return ExprEnd::At(i + 1);
+    }
+    ExprEnd::Nothing
 }
 
 pub fn expr_end(s: &[u8]) -> ExprEnd
@@ -147,6 +148,13 @@ pub fn expr_end(s: &[u8]) -> ExprEnd
             }
         }
         i += 1;
+        if k < 2 {
+            let ExprEnd::At(j) = plain_end(k, n, s, i) else {
+                return ExprEnd::Nothing;
+            };
+            i = j;
+            continue 'instructions;
+        }
         loop {
             if n == 0 {
                 continue 'instructions;
@@ -154,7 +162,7 @@ pub fn expr_end(s: &[u8]) -> ExprEnd
             if s.len() <= i {
                 return ExprEnd::Nothing;
             }
-            let Left::Still(left) = operand(k, n, s[i]) else {
+            let Left::Still(left) = number_left(k == 3, n, s[i]) else {
                 return ExprEnd::Nothing;
             };
             n = left;
