@@ -1,11 +1,15 @@
 // Numbers as `Encode` of wasm-encoder's lib.rs writes them, in LEB128, and their readers: the argument of `leb128` at the widths in use.
+use format::Done;
 use format::Written;
+use format::least;
+use format::more;
 use leb128::Parts;
 ghost use mathlib.Core.Path.{_≡_};
 ghost use lib.IntN.{pos};
 ghost use lib.ListN.{length, drop};
 ghost use lib.Signed.{ltZ, mag};
 ghost use Prim.Native.Nat.{_%_, _≤_, _<_, _^_};
+ghost use Rattle.format.specs.Count.{Adds};
 ghost use Rattle.format.specs.Read.{reading};
 ghost use Rattle.format.specs.Write.{Writes};
 ghost use Rattle.leb128.specs.Leb.{uleb, sleb};
@@ -85,6 +89,18 @@ pub fn encoding_size(n: u32) -> usize
     ensures { λ r. ⌜ r ≡ length (uleb n) ⌝ }
 {
     leb128::size(false, n as u64)
+}
+
+// Behind what was appended before, as far as there is room (`format::Done`).
+pub fn append_u32(v: u32, out: &mut [u8], s: Done) -> Done
+    ensures { λ r. ⌜ Adds (uleb v) 9 (now (out .entry)) s (now (out .exit)) r ⌝ }
+{
+    let n = s.n;
+    let low = s.low;
+    let k = more(n, encoding_size(v));
+    let at = least(n, out.len());
+    encode_u32(v, &mut out[at..]);
+    Done { n: k, low: low }
 }
 
 // Readers: what stands in `s` from the place `at` on, however far that is. They answer a number in its shortest form and the place behind it, or that none

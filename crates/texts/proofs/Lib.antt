@@ -1,0 +1,2 @@
+-- What the proofs of `texts` share.
+pub mod Checks

@@ -1,0 +1,46 @@
+-- `texts::is_expr` meets its contract. Assumes nothing.
+use mathlib.Core.Bool.{false}
+use mathlib.Core.List.{[]}
+use mathlib.Core.Path.{_≡_, refl, sym, ap, _∙_}
+use Prim.Native.Nat.{_+_, _≤_}
+use lib.ListN.{length}
+use denote.Ref.{now}
+use borrow.Author.Needs.{needs}
+use borrow.Author.Tests.{leb-true, leb-false}
+use lib.Dec.{eqb}
+use Rattle.exprs.specs.Scan.{scan}
+use Rattle.texts.specs.Text.{isExpr, cut-is, slice-past}
+use Rattle.texts.proofs.is_expr.Statement.{statement}
+use Rattle.texts.proofs.is_expr.Tie as tie
+
+-- no bytes are no expression
+no-bytes : isExpr [] ≡ false
+unfolding scan
+no-bytes = refl
+
+inside : (f : tie.Then1) → let a = f .before .before .before .args in a .at .start + a .at .len ≤ length (now (a .text))
+inside f = leb-true _ _ (sym (f .before .is-within .ensures) ∙ f .if1 .taken)
+
+returns : tie.Need-returns
+returns c =
+    let f = c .before .before .before .before in
+    let a = f .before .before .before .args in
+    ap (λ n. eqb n 0) (c .check-expr .ensures) ∙ ap isExpr (cut-is (now (a .text)) (a .at) (inside f))
+
+returns-2 : tie.Need-returns-2
+returns-2 c = let a = c .before .before .before .args in sym (ap isExpr (slice-past (now (a .text)) (a .at) (leb-false _ _ (sym (c .before .is-within .ensures) ∙ c .if1 .left))) ∙ no-bytes)
+
+pub is-expr-spec : {M : Type 1} → statement M
+is-expr-spec =
+    tie.close
+    (tie.spec
+    (λ c κs. search needs)
+    (λ c. search needs)
+    (λ c. search needs)
+    (λ c. search needs)
+    (λ c. search needs)
+    (λ c. search needs)
+    (λ c. inside (c .before .before))
+    (λ c κs. search needs)
+    returns
+    returns-2)

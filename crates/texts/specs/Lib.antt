@@ -1,0 +1,2 @@
+-- Texts of records: what spans hold and draw.
+pub mod Text

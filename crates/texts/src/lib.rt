@@ -1,0 +1,105 @@
+// A record's texts: spans of the text that comes with it, the refusals that they draw (3, 4, 5), and what is written of them.
+use format::Done;
+use format::append_run;
+use format::lower;
+use numbers::append_u32;
+ghost use mathlib.Core.Path.{_≡_};
+ghost use lib.ListN.{length};
+ghost use Rattle.format.specs.Count.{Adds};
+ghost use Rattle.leb128.specs.Formats.{u32};
+ghost use Rattle.format.specs.Sized.{sized};
+ghost use Rattle.names.specs.Name.{isName};
+ghost use Rattle.texts.specs.Text.{isWithin, sliceOf, isExpr, pastOf, refusalOf, named, constant, plain};
+
+// Two words of a record: where a text starts, and its length.
+pub struct Span {
+    pub start: u32,
+    pub len: u32,
+}
+
+// Whether a span ends within the text.
+fn is_within(text: &[u8], at: Span) -> bool
+    ensures { λ r. ⌜ r ≡ isWithin (now (text .entry)) at ⌝ }
+{
+    at.start as usize + at.len as usize <= text.len()
+}
+
+// How many bytes a span holds: none where it ends past the text.
+fn held(text: &[u8], at: Span) -> u32
+    ensures { λ r. ⌜ r ≡ length (sliceOf (now (text .entry)) at) ⌝ }
+{
+    if is_within(text, at) {
+        return at.len;
+    }
+    0
+}
+
+// Its bytes.
+fn append_slice(text: &[u8], at: Span, out: &mut [u8], s: Done) -> Done
+    ensures { λ r. ⌜ Adds (sliceOf (now (text .entry)) at) (pastOf (now (text .entry)) at) (now (out .entry)) s (now (out .exit)) r ⌝ }
+{
+    if is_within(text, at) {
+        let from = at.start as usize;
+        let end = from + at.len as usize;
+        return append_run(&text[from..end], out, s);
+    }
+    lower(s, 3)
+}
+
+// Data: its length, and its bytes.
+pub fn append_data(text: &[u8], at: Span, out: &mut [u8], s: Done) -> Done
+    ensures { λ r. ⌜ Adds (sized u32 .print (sliceOf (now (text .entry)) at)) (refusalOf (now (text .entry)) plain at) (now (out .entry)) s (now (out .exit)) r ⌝ }
+{
+    let t = append_u32(held(text, at), out, s);
+    append_slice(text, at, out, t)
+}
+
+fn is_name(text: &[u8], at: Span) -> bool
+    ensures { λ r. ⌜ r ≡ isName (sliceOf (now (text .entry)) at) ⌝ }
+{
+    if is_within(text, at) {
+        let from = at.start as usize;
+        let end = from + at.len as usize;
+        return names::is_name(&text[from..end]);
+    }
+    true
+}
+
+fn is_expr(text: &[u8], at: Span) -> bool
+    ensures { λ r. ⌜ r ≡ isExpr (sliceOf (now (text .entry)) at) ⌝ }
+{
+    if is_within(text, at) {
+        let from = at.start as usize;
+        let end = from + at.len as usize;
+        return exprs::check_expr(&text[from..end]) == 0;
+    }
+    false
+}
+
+// A name: its length, and its bytes. It is checked only where that could lower the refusal.
+pub fn append_name(text: &[u8], at: Span, out: &mut [u8], s: Done) -> Done
+    ensures { λ r. ⌜ Adds (sized u32 .print (sliceOf (now (text .entry)) at)) (refusalOf (now (text .entry)) named at) (now (out .entry)) s (now (out .exit)) r ⌝ }
+{
+    let t = append_data(text, at, out, s);
+    if t.low <= 4 {
+        return t;
+    }
+    if is_name(text, at) {
+        return t;
+    }
+    lower(t, 4)
+}
+
+// An expression: its bytes, which end in 0B. It is checked only where that could lower the refusal.
+pub fn append_expr(text: &[u8], at: Span, out: &mut [u8], s: Done) -> Done
+    ensures { λ r. ⌜ Adds (sliceOf (now (text .entry)) at) (refusalOf (now (text .entry)) constant at) (now (out .entry)) s (now (out .exit)) r ⌝ }
+{
+    let t = append_slice(text, at, out, s);
+    if t.low <= 5 {
+        return t;
+    }
+    if is_expr(text, at) {
+        return t;
+    }
+    lower(t, 5)
+}
