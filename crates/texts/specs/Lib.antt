@@ -1,2 +1,3 @@
--- Texts of records: what spans hold and draw.
+-- Texts of records: their words, what spans hold and draw.
 pub mod Text
+pub mod Words

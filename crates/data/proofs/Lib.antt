@@ -1,0 +1,2 @@
+-- What the proofs of `data` share.
+pub mod Words
