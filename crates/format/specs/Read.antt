@@ -38,6 +38,13 @@ rest-at F s at a t e =
     let n : placeOf s t ≡ length q = omega arith in
     (sym (rw n (ap (drop (length q)) se ∙ drop-append-seam q t)), omega arith)
 
+-- a value that takes some numbers ends so many behind its place
+pub ends-at : {A : Type 0} (F : Format A) (s : List ℕ) (at p : ℕ) (a : A) → F .parse (drop at s) ≡ got a (drop p s) → p ≤ length s → 0 < length (F .print a)
+    → p ≡ at + length (F .print a)
+ends-at F s at p a e h k =
+    let l : length (drop at s) ≡ length (F .print a) + length (drop p s) = ap length (F .only (drop at s) a (drop p s) e .1) ∙ length-append (F .print a) (drop p s) in
+    omega (arith, length-drop at s, length-drop p s)
+
 -- ---- answers
 
 -- document 01, Answers by number: a number of the table, the value and where it ended, both 0 beside a refusal

@@ -1,8 +1,12 @@
 // A record's texts: spans of the text that comes with it, the refusals that they draw (3, 4, 5), and what is written of them.
+mod reader;
+
 use format::Done;
 use format::append_run;
 use format::lower;
 use numbers::append_u32;
+pub use reader::find_data;
+pub use reader::find_expr;
 ghost use mathlib.Core.Path.{_≡_};
 ghost use lib.ListN.{length};
 ghost use Rattle.format.specs.Count.{Adds};
@@ -15,6 +19,12 @@ ghost use Rattle.texts.specs.Text.{isWithin, sliceOf, isExpr, pastOf, re
 pub struct Span {
     pub start: u32,
     pub len: u32,
+}
+
+// Where a text of an item stands in its bytes, or that none begins there.
+pub enum TextAt {
+    At(Span),
+    No,
 }
 
 // Whether a span ends within the text.

@@ -1,0 +1,46 @@
+// Where the texts of an item stand in its bytes.
+use crate::Span;
+use crate::TextAt;
+use exprs::ExprEnd;
+use numbers::ReadU32;
+ghost use mathlib.Core.Path.{_≡_};
+ghost use Prim.Native.Nat.{_≤_};
+ghost use lib.ListN.{length, drop};
+ghost use Rattle.format.specs.Sized.{sized};
+ghost use Rattle.leb128.specs.Formats.{u32};
+ghost use Rattle.exprs.specs.Laws.{expr};
+ghost use Rattle.texts.specs.Place.{spanAt, sizedAt, textAt};
+
+// Data behind its length.
+pub fn find_data(bytes: &[u8], at: usize) -> TextAt
+    requires { ⌜ length (now bytes) ≤ 65536 ⌝ }
+    ensures { λ r. ⌜ r ≡ textAt (sizedAt at) (sized u32 .parse (drop at (now (bytes .entry)))) ⌝ }
+{
+    let ReadU32::Value(n, p) = numbers::decode_u32(bytes, at) else {
+        return TextAt::No;
+    };
+    if bytes.len() - p < n as usize {
+        return TextAt::No;
+    }
+    TextAt::At(Span {
+        start: p as u32,
+        len: n,
+    })
+}
+
+// An expression, up to its 0B.
+pub fn find_expr(bytes: &[u8], at: usize) -> TextAt
+    requires { ⌜ length (now bytes) ≤ 65536 ⌝ }
+    ensures { λ r. ⌜ r ≡ textAt (spanAt at) (expr .parse (drop at (now (bytes .entry)))) ⌝ }
+{
+    if bytes.len() < at {
+        return TextAt::No;
+    }
+    let ExprEnd::At(n) = exprs::expr_end(&bytes[at..]) else {
+        return TextAt::No;
+    };
+    TextAt::At(Span {
+        start: at as u32,
+        len: n as u32,
+    })
+}
