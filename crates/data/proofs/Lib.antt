@@ -1,2 +1,3 @@
 -- What the proofs of `data` share.
 pub mod Words
+pub mod Bytes

@@ -11,7 +11,7 @@ use Rattle.format.specs.Parsed.{Parsed, fail, got}
 use Rattle.format.specs.Format.{refuses}
 use Rattle.format.specs.Read.{placeOf, drop-more, rest-at}
 use Rattle.texts.specs.declared.Span.{Span}
-use Rattle.data.specs.Segment.{Segment, passive, active, words, recordOf}
+use Rattle.data.specs.Segment.{Segment, passive, active, words, told, recordOf}
 use Rattle.data.specs.declared.DataRecord.{DataRecord}
 use Rattle.data.specs.declared.DataRecord.the-variants.{Passive, Active, No}
 
@@ -67,24 +67,15 @@ too-few w at h =
     ap recordOf
     (refuses words (drop at w) .1 (λ x r ok e. omega (arith, ap length e ∙ length-append (words .print x) r, words-long x, length-drop at w)))
 
--- as an answer
-abbrev pub told : Segment Span → DataRecord
-told (passive d) = Passive d
-told (active m o d) = Active m o d
-
-told-one : (x y : Segment Span) → told x ≡ told y → x ≡ y
+pub told-one : (x y : Segment Span) → told x ≡ told y → x ≡ y
 told-one (passive d) (passive e) h = let q : d ≡ e = cc in ap passive q
 told-one (passive d) (active m o e) h = let z : _≡_ {A = ℕ} 0 1 = cc in absurd (omega arith)
 told-one (active m o d) (passive e) h = let z : _≡_ {A = ℕ} 0 1 = cc in absurd (omega arith)
 told-one (active m o d) (active n p e) h = let q : _≡_ {A = Segment Span} (active m o d) (active n p e) = cc in q
 
-told-not : (x : Segment Span) → No ≡ told x → ⊥
+pub told-not : (x : Segment Span) → No ≡ told x → ⊥
 told-not (passive d) h = let z : _≡_ {A = ℕ} 0 1 = cc in omega arith
 told-not (active m o d) h = let z : _≡_ {A = ℕ} 0 1 = cc in omega arith
-
-record-got : (x : Segment Span) (r : List ℕ) → recordOf (got x r) ≡ told x
-record-got (passive d) r = refl
-record-got (active m o d) r = refl
 
 -- a record at a place
 abbrev pub Found : List ℕ → ℕ → Segment Span → Type 0
@@ -96,7 +87,7 @@ read-at w at x h = go (words .parse (drop at w)) refl h
     go : (m : Parsed (Segment Span)) → words .parse (drop at w) ≡ m → recordOf m ≡ told x → Found w at x
     go fail e k = absurd (told-not x k)
     go (got y r) e k =
-        let yx : y ≡ x = told-one y x (sym (record-got y r) ∙ k) in
+        let yx : y ≡ x = told-one y x k in
         let l : length (drop at w) ≡ length (words .print y) + length r = ap length (words .only (drop at w) y r e .1) ∙ length-append (words .print y) r in
         let n : length (drop at w) ≡ length w - at = length-drop at w in
         let six = words-long y in
@@ -109,4 +100,4 @@ none-at w at h = go (words .parse (drop at w)) refl h
   where
     go : (m : Parsed (Segment Span)) → words .parse (drop at w) ≡ m → recordOf m ≡ No → words .parse (drop at w) ≡ fail
     go fail e k = e
-    go (got y r) e k = absurd (told-not y (sym k ∙ record-got y r))
+    go (got y r) e k = absurd (told-not y (sym k))

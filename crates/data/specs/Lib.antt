@@ -1,2 +1,3 @@
--- Data segments: words and bytes over one abstract syntax, and where an item's texts stand.
+-- Data segments: words and bytes over one abstract syntax, and the record of an item.
 pub mod Segment
+pub mod Located

@@ -40,9 +40,12 @@ abbrev pub sideOf : {S : Type 0} → Segment S → S ⊎ (ℕ × (S × S))
 sideOf (passive d) = inl d
 sideOf (active m o d) = inr (m, (o, d))
 
+abbrev pub activeOf : {S : Type 0} → ℕ × (S × S) → Segment S
+activeOf p = active (p .0) (p .1 .0) (p .1 .1)
+
 abbrev pub ofSide : {S : Type 0} → S ⊎ (ℕ × (S × S)) → Segment S
 ofSide (inl d) = passive d
-ofSide (inr p) = active (p .0) (p .1 .0) (p .1 .1)
+ofSide (inr p) = activeOf p
 
 pub side-back : {S : Type 0} (x : Segment S) → ofSide (sideOf x) ≡ x
 side-back (passive d) = refl
@@ -65,11 +68,14 @@ words =
     iso (alt (is 0) passiveWords activeWords (heads-tag 0 (tag 0 (tag 0 (tag 0 span))) (is 0) true refl) (heads-tag 1 (pair word (pair span span)) (is 0) false refl))
     sideOf ofSide side-back of-side
 
--- what was read of words, as an answer
+-- a record, and what was read of words, as an answer
+abbrev pub told : Segment Span → DataRecord
+told (passive d) = Passive d
+told (active m o d) = Active m o d
+
 abbrev pub recordOf : Parsed (Segment Span) → DataRecord
 recordOf fail = No
-recordOf (got (passive d) r) = Passive d
-recordOf (got (active m o d) r) = Active m o d
+recordOf (got x r) = told x
 
 -- ---- bytes: active in memory 0 is 00 offset, in another memory 02 memory offset, passive 01; then length and bytes
 
@@ -108,6 +114,7 @@ memory-heads =
 abbrev pub activeBytes : Format (ℕ × (List ℕ × List ℕ))
 activeBytes = pair memory (pair expr (sized u32))
 
+-- the items of active segments, and of all
 abbrev pub bytes : Format (Segment (List ℕ))
 bytes =
     iso (alt (is 1) (tag 1 (sized u32)) activeBytes (heads-tag 1 (sized u32) (is 1) true refl) (heads-pair memory (pair expr (sized u32)) (is 1) false memory-heads))

@@ -1,8 +1,11 @@
 // Data segments, as DataSection of wasm-encoder's data.rs writes them: passive, active in memory 0, active in another memory.
+mod reader;
+
 use format::Done;
 use format::Walk;
 use format::append_byte;
 use numbers::append_u32;
+pub use reader::walk_bytes;
 use texts::Span;
 use texts::append_data;
 use texts::append_expr;
@@ -18,6 +21,12 @@ ghost use Rattle.data.specs.Segment.{passive, active, memory as memoryOf
 pub enum DataRecord {
     Passive(Span),
     Active(u32, Span, Span),
+    No,
+}
+
+// A memory in an item, and where it ends; or that none begins there.
+pub enum MemoryAt {
+    Is(u32, usize),
     No,
 }
 

@@ -27,6 +27,10 @@ placeOf s r = length s - length r
 pub place-at : (s : List ℕ) (n : ℕ) → n ≤ length s → placeOf s (drop n s) ≡ n
 place-at s n h = rw (length-drop n s) (omega arith)
 
+-- and that of what stands from a place on is that place
+pub same-place : (s : List ℕ) {p q : ℕ} → p ≤ length s → q ≤ length s → drop p s ≡ drop q s → p ≡ q
+same-place s {p} {q} h k e = sym (place-at s p h) ∙ ap (placeOf s) e ∙ place-at s q k
+
 -- what a format leaves is what stands from its place on
 pub rest-at : {A : Type 0} (F : Format A) (s : List ℕ) (at : ℕ) (a : A) (t : List ℕ) → F .parse (drop at s) ≡ got a t
     → (t ≡ drop (placeOf s t) s) × (placeOf s t ≤ length s)
@@ -38,12 +42,20 @@ rest-at F s at a t e =
     let n : placeOf s t ≡ length q = omega arith in
     (sym (rw n (ap (drop (length q)) se ∙ drop-append-seam q t)), omega arith)
 
--- a value that takes some numbers ends so many behind its place
-pub ends-at : {A : Type 0} (F : Format A) (s : List ℕ) (at p : ℕ) (a : A) → F .parse (drop at s) ≡ got a (drop p s) → p ≤ length s → 0 < length (F .print a)
-    → p ≡ at + length (F .print a)
-ends-at F s at p a e h k =
-    let l : length (drop at s) ≡ length (F .print a) + length (drop p s) = ap length (F .only (drop at s) a (drop p s) e .1) ∙ length-append (F .print a) (drop p s) in
-    omega (arith, length-drop at s, length-drop p s)
+-- which is so many numbers behind as the value takes
+pub read-on : {A : Type 0} (F : Format A) (s : List ℕ) (at : ℕ) (a : A) (t : List ℕ) → at ≤ length s → F .parse (drop at s) ≡ got a t
+    → (F .parse (drop at s) ≡ got a (drop (at + length (F .print a)) s)) × (at + length (F .print a) ≤ length s)
+read-on F s at a t h e =
+    let l : length (drop at s) ≡ length (F .print a) + length t = ap length (F .only (drop at s) a t e .1) ∙ length-append (F .print a) t in
+    let n : length (drop at s) ≡ length s - at = length-drop at s in
+    let p : placeOf s t ≡ at + length (F .print a) = omega arith in
+    (e ∙ ap (λ (r : List ℕ). got a r) (rest-at F s at a t e .0 ∙ ap (λ (i : ℕ). drop i s) p), omega arith)
+
+-- a value that takes some numbers begins within
+pub begins : {A : Type 0} (F : Format A) (s : List ℕ) (at : ℕ) (a : A) (t : List ℕ) → 0 < length (F .print a) → F .parse (drop at s) ≡ got a t → at ≤ length s
+begins F s at a t k e =
+    let l : length (drop at s) ≡ length (F .print a) + length t = ap length (F .only (drop at s) a t e .1) ∙ length-append (F .print a) t in
+    omega (arith, length-drop at s)
 
 -- ---- answers
 

@@ -5,6 +5,7 @@ use format::Done;
 use format::append_run;
 use format::lower;
 use numbers::append_u32;
+pub use reader::append_span;
 pub use reader::find_data;
 pub use reader::find_expr;
 ghost use mathlib.Core.Path.{_≡_};

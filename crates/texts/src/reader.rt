@@ -1,14 +1,18 @@
-// Where the texts of an item stand in its bytes.
+// Where the texts of an item stand in its bytes, as spans of its record.
 use crate::Span;
 use crate::TextAt;
 use exprs::ExprEnd;
+use format::Done;
+use format::append_word;
 use numbers::ReadU32;
 ghost use mathlib.Core.Path.{_≡_};
 ghost use Prim.Native.Nat.{_≤_};
 ghost use lib.ListN.{length, drop};
+ghost use Rattle.format.specs.Count.{Adds};
 ghost use Rattle.format.specs.Sized.{sized};
 ghost use Rattle.leb128.specs.Formats.{u32};
 ghost use Rattle.exprs.specs.Laws.{expr};
+ghost use Rattle.texts.specs.Words.{span};
 ghost use Rattle.texts.specs.Place.{spanAt, sizedAt, textAt};
 
 // Data behind its length.
@@ -43,4 +47,11 @@ pub fn find_expr(bytes: &[u8], at: usize) -> TextAt
         start: at as u32,
         len: n as u32,
     })
+}
+
+pub fn append_span(v: Span, out: &mut [u32], s: Done) -> Done
+    ensures { λ r. ⌜ Adds (span .print v) 9 (now (out .entry)) s (now (out .exit)) r ⌝ }
+{
+    let t = append_word(v.start, out, s);
+    append_word(v.len, out, t)
 }

@@ -7,8 +7,8 @@ use lib.ListN.{length, take, drop, length-take, length-drop}
 use denote.Ref.{now}
 use borrow.Author.Needs.{needs}
 use borrow.Author.Tests.{le-leb, lt-leb}
-use Rattle.format.specs.Parsed.{fail, got}
-use Rattle.format.specs.Read.{told-found, told-nothing, ends-at}
+use Rattle.format.specs.Parsed.{fail, got, got-rest}
+use Rattle.format.specs.Read.{told-found, told-nothing, read-on, begins, same-place}
 use Rattle.leb128.specs.Leb.{uleb, unsigned}
 use Rattle.leb128.specs.LebLaws.{leb-some}
 use Rattle.leb128.specs.Formats.{u32}
@@ -48,7 +48,8 @@ returns-3 c =
     let r = read k in
     let room : n ≤ length (drop p b) = rw (length-drop p b) (omega (arith, c .if1 .left, r .1)) in
     let long : length (take n (drop p b)) ≡ n = simp length-take (omega arith) in
-    let start : p ≡ i + length (uleb n) = ends-at u32 b i p n (r .0) (r .1) (leb-some unsigned (pos n)) in
+    let on = read-on u32 b i n (drop p b) (begins u32 b i n (drop p b) (leb-some unsigned (pos n)) (r .0)) (r .0) in
+    let start : p ≡ i + length (uleb n) = same-place b (r .1) (on .1) (got-rest (sym (r .0) ∙ on .0)) in
     rw (r .0, le-leb n (length (drop p b)) room, long, ← start)
 
 pub find-data-spec : {M : Type 1} → statement M
