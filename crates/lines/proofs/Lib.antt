@@ -1,0 +1,4 @@
+-- What the proofs of `lines` share.
+pub mod Decoding
+pub mod Printing
+pub mod Reading

@@ -1,0 +1,7 @@
+-- Hex lines: their digits, their sum, and the frames that they hold.
+pub mod Hex
+pub mod Decode
+pub mod Sum
+pub mod Words
+pub mod Frame
+pub mod Line
