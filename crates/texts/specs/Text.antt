@@ -45,6 +45,13 @@ abbrev pub lowestOf : List ℕ → List (Kind × Span) → ℕ
 lowestOf text [] = 9
 lowestOf text (x ∷ xs) = min (refusalOf text (x .0) (x .1)) (lowestOf text xs)
 
+pub lowest-small : (text : List ℕ) (xs : List (Kind × Span)) → lowestOf text xs ≤ 9
+lowest-small text [] = omega arith
+lowest-small text (x ∷ xs) = small (refusalOf text (x .0) (x .1)) (lowestOf text xs) (lowest-small text xs)
+  where
+    small : (a b : ℕ) → b ≤ 9 → min a b ≤ 9
+    small a b h = omega arith
+
 module _ (text : List ℕ) (at : Span) where
   module _ (h : at .start + at .len ≤ length text) where
     pub slice-in : sliceOf text at ≡ take (at .len) (drop (at .start) text)

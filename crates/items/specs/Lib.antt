@@ -1,0 +1,2 @@
+-- The sum over the sections.
+pub mod Record
