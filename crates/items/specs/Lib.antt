@@ -1,2 +1,3 @@
--- The sum over the sections.
+-- The sum over the sections, and what its records draw.
 pub mod Record
+pub mod Judging

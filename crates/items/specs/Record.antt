@@ -12,6 +12,7 @@ use Rattle.format.specs.Combine.{iso}
 use Rattle.frames.specs.declared.SectionId.{SectionId}
 use Rattle.frames.specs.declared.SectionId.the-variants.{Data}
 use Rattle.texts.specs.Text.{Kind, lowestOf}
+use Rattle.texts.specs.Judge.{Records}
 use Rattle.texts.specs.declared.Span.{Span}
 use Rattle.data.specs.Segment as segments
 use Rattle.data.specs.Segment.{Segment}
@@ -42,6 +43,9 @@ itemOf t (segment x) = segments.itemOf t x
 
 abbrev pub lowOf : List ℕ → Record Span → ℕ
 lowOf t x = lowestOf t (textsOf x)
+
+abbrev pub records : Records (Record Span)
+records = record { words = words; texts = textsOf; item = itemOf }
 
 -- what stands at the front of a section's bytes; other ids have no items
 abbrev pub itemIn : ℕ → List ℕ → Parsed (Record (List ℕ))

@@ -7,6 +7,7 @@ ghost use Prim.Native.Nat.{_≤_};
 ghost use lib.ListN.{length};
 ghost use Rattle.format.specs.Walk.{Walked, Walks};
 ghost use Rattle.items.specs.Record.{words as wordsOf, itemOf, lowOf, itemIn, recordOf};
+ghost use Rattle.items.specs.Judging.{judgedOf, Puts};
 
 // Reads a record's words and appends its item.
 pub fn walk_words(words: &[u32], text: &[u8], out: &mut [u8], s: Done) -> Walk
@@ -31,4 +32,43 @@ pub fn walk_bytes(id: u8, bytes: &[u8], out: &mut [u32], s: Done) -> Walk
         return data::walk_bytes(bytes, 0, out, t);
     }
     Walk::No
+}
+
+// What a record and its text draw of 2 to 6; or none of them, and the item's length.
+pub enum Judged {
+    Refused(u32),
+    Length(usize),
+}
+
+// Measured by a walk with nothing to write into.
+pub fn judge(words: &[u32], text: &[u8]) -> Judged
+    ensures { λ r. ⌜ r ≡ judgedOf (now (words .entry)) (now (text .entry)) ⌝ }
+{
+    if 4096 < words.len() {
+        return Judged::Refused(2);
+    }
+    let mut none = [0u8; 1];
+    let Walk::Got(end, s) = walk_words(words, text, &mut none, Done { n: 0, low: 9 }) else {
+        return Judged::Refused(2);
+    };
+    if end != words.len() {
+        return Judged::Refused(2);
+    }
+    if 65536 < text.len() {
+        return Judged::Refused(3);
+    }
+    if s.low < 9 {
+        return Judged::Refused(s.low);
+    }
+    if 65536 < s.n {
+        return Judged::Refused(6);
+    }
+    Judged::Length(s.n)
+}
+
+// Writes the item of a record that draws none of them, where there is room. No refusal can be lower than 0, so that no text is checked again.
+pub fn put_item(words: &[u32], text: &[u8], out: &mut [u8])
+    ensures { λ r. ⌜ Puts (now (words .entry)) (now (text .entry)) (now (out .entry)) (now (out .exit)) ⌝ }
+{
+    walk_words(words, text, out, Done { n: 0, low: 0 });
 }

@@ -85,3 +85,21 @@ module _ (text : List ℕ) (at : Span) where
   -- as a part of the text is cut
   pub cut-is : at .start + at .len ≤ length text → take (at .start + at .len - at .start) (drop (at .start) text) ≡ sliceOf text at
   cut-is h = let e : at .start + at .len - at .start ≡ at .len = omega arith in rw (e, slice-in h)
+
+-- no lower refusal than 3 is drawn
+drawn-least : (c : Bool) (k : ℕ) → 3 ≤ k → 3 ≤ cond c 9 k
+drawn-least true k h = omega arith
+drawn-least false k h = h
+
+refusal-least : (text : List ℕ) (k : Kind) (at : Span) → 3 ≤ refusalOf text k at
+unfolding pastOf
+refusal-least text named at = let p = drawn-least (isWithin text at) 3 (omega arith) in let q = drawn-least (isName (sliceOf text at)) 4 (omega arith) in omega arith
+refusal-least text constant at = let p = drawn-least (isWithin text at) 3 (omega arith) in let q = drawn-least (isExpr (sliceOf text at)) 5 (omega arith) in omega arith
+refusal-least text plain at = drawn-least (isWithin text at) 3 (omega arith)
+
+pub lowest-least : (text : List ℕ) (xs : List (Kind × Span)) → 3 ≤ lowestOf text xs
+lowest-least text [] = omega arith
+lowest-least text (x ∷ xs) = both (refusalOf text (x .0) (x .1)) (lowestOf text xs) (refusal-least text (x .0) (x .1)) (lowest-least text xs)
+  where
+    both : (a b : ℕ) → 3 ≤ a → 3 ≤ b → 3 ≤ min a b
+    both a b h k = omega arith

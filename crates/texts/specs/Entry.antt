@@ -1,0 +1,109 @@
+-- What a walk over a record's words tells about the answer, for an entry that measures first and writes only what it accepts. Assumes nothing.
+use mathlib.Core.Path.{_≡_, refl, sym, ap, subst, _∙_}
+use mathlib.Core.Option.{Option, none, some}
+use mathlib.Core.List.{List, [], _∷_, _++_, append-nil}
+use Prim.Native.Nat.{ℕ, _≤_, _<_}
+use native.Mathlib.Omega.{arith}
+use lib.Dec.{ltb}
+use lib.ListN.{length, drop}
+use lib.Seq.{drop-length}
+use borrow.Author.Tests.{lt-ltb, le-ltb}
+use Rattle.format.specs.Parsed.{Parsed, fail, got, got-rest, fail-got}
+use Rattle.format.specs.Read.{same-place}
+use Rattle.format.specs.Write.{over}
+use Rattle.format.specs.Count.{counted, Has, adds-fresh}
+use Rattle.format.specs.Walk.{Walks, Walked, no-walks, Gone, got-walks}
+use Rattle.format.specs.declared.Done.{Done}
+use Rattle.format.specs.declared.Walk.{Walk}
+use Rattle.format.specs.declared.Walk.the-variants as walks
+use Rattle.texts.specs.Text.{lowestOf, lowest-small}
+use Rattle.texts.specs.Judge.{Records, wordsMost, textMost, itemMost, recordIn, itemIn, why, two-exactly, whole-back, record-inv, record-back, no-record-exactly, Fine, fine, fine-accepted, drawn-first, drawn-none}
+
+module _ {A : Type 0} (R : Records A) (w t : List ℕ) where
+  -- the walk that an add makes over its words
+  abbrev pub AddWalks : List ℕ → Done → List ℕ → Walk → Type 0
+  AddWalks old s new r = Walks (R .words) (R .item t) (λ a. lowestOf t (R .texts a)) w 0 old s new r
+
+  -- ---- 2: the words are more than 4,096, no record, or some are left over
+
+  pub many-words : wordsMost < length w → why R w t ≡ 2
+  many-words h = two-exactly R w t .1 (tt, no-record-exactly R w .1 (λ a ok e k. omega arith))
+
+  none-is : ((a : A) → R .words .parse w ≡ got a [] → ⊥) → why R w t ≡ 2
+  none-is n = two-exactly R w t .1 (tt, no-record-exactly R w .1 (λ a ok e k. n a (whole-back R w a ok e)))
+
+  module _ (old : List ℕ) (s : Done) (new : List ℕ) (r : Walk) (h : AddWalks old s new r) where
+    pub no-record : r ≡ walks.No → why R w t ≡ 2
+    no-record e =
+        let f = no-walks (R .words) (R .item t) (λ a. lowestOf t (R .texts a)) w 0 old s new r h e in
+        none-is (λ a. fail-got (R .words .parse w) a [] f)
+
+    -- what a walk that found a value says of it
+    gone : {p : ℕ} {u : Done} → r ≡ walks.Got p u → Gone (R .words) (R .item t) (λ a. lowestOf t (R .texts a)) w 0 old s new p u
+    gone {p} {u} e = got-walks (R .words) (R .item t) (λ a. lowestOf t (R .texts a)) w 0 old s new r p u h e
+
+    pub words-left : {p : ℕ} {u : Done} → r ≡ walks.Got p u → (p ≡ length w → ⊥) → why R w t ≡ 2
+    words-left e n = let g = gone e in none-is (λ a q. n (same-place w (g .place) (omega arith) (got-rest (sym (g .read) ∙ q) ∙ sym (drop-length w))))
+
+  -- ---- else they are a record's, and a walk from nothing on counts its item and finds the lowest refusal that its texts draw
+
+  pub record Measured (u : Done) : Type 0 where
+    pub value : A
+    pub is : recordIn R w ≡ some value
+    pub count : u .n ≡ counted (length (R .item t value))
+    pub lowest : u .low ≡ lowestOf t (R .texts value)
+
+  pub measured : (old : List ℕ) (s : Done) (new : List ℕ) (r : Walk) → AddWalks old s new r → {p : ℕ} {u : Done} → r ≡ walks.Got p u → p ≡ length w
+      → length w ≤ wordsMost → s .n ≡ 0 → s .low ≡ 9 → Measured u
+  measured old s new r h {p} {u} e all few n low =
+      let g = gone old s new r h e in
+      let end : drop p w ≡ [] = rw all (drop-length w) in
+      let q : R .words .parse w ≡ got (g .value) [] = g .read ∙ ap (λ (l : List ℕ). got (g .value) l) end in
+      let o = R .words .only w (g .value) [] q in
+      let k = adds-fresh (g .adds) n low (lowest-small t (R .texts (g .value))) in
+      record {
+        value = g .value;
+        is = record-back R w (g .value) (o .0) (o .1 ∙ append-nil (R .words .print (g .value))) few;
+        count = k .count;
+        lowest = k .lowest;
+      }
+
+  module _ {u : Done} (m : Measured u) where
+    pub long-text : textMost < length t → why R w t ≡ 3
+    long-text h = rw (m .is, lt-ltb textMost (length t) h)
+
+    module _ (short : length t ≤ textMost) where
+      pub refused-text : u .low < 9 → why R w t ≡ u .low
+      refused-text h =
+          let l = R .texts (m .value) in
+          let k : lowestOf t l < 9 = rw (m .lowest) at h in
+          rw (m .is, le-ltb textMost (length t) short, m .lowest) (drawn-first t l ((6, ltb itemMost (length (R .item t (m .value)))) ∷ []) k)
+
+      module _ (texts : 9 ≤ u .low) where
+        none-low : lowestOf t (R .texts (m .value)) ≡ 9
+        none-low = omega (arith, m .lowest, lowest-small t (R .texts (m .value)))
+
+        pub large-item : itemMost < u .n → why R w t ≡ 6
+        large-item h =
+            let n = length (R .item t (m .value)) in
+            let k : itemMost < n = omega (arith, m .count) in
+            rw (m .is, le-ltb textMost (length t) short) (drawn-none t (R .texts (m .value)) ((6, ltb itemMost n) ∷ []) none-low ∙ rw (lt-ltb itemMost n k))
+
+        pub accepted : u .n ≤ itemMost → (why R w t ≡ 0) × (length (itemIn R w t) ≡ u .n)
+        accepted h =
+            let k : length (R .item t (m .value)) ≡ u .n = omega (arith, m .count) in
+            (fine-accepted R w t (record { value = m .value; is = m .is; short = short; texts = none-low; fits = omega arith }), rw (m .is) k)
+
+  -- ---- a second walk over words that were accepted leaves the item, whatever refusal it starts with
+
+  has-none : (old : List ℕ) (s : Done) → s .n ≡ 0 → s .low ≤ 9 → Has [] (s .low) old old s
+  has-none old s n l = record { count = n; lowest = refl; small = l; kept = refl; bytes = λ h k. refl }
+
+  pub second-walk : (old : List ℕ) (s : Done) (new : List ℕ) (r : Walk) → AddWalks old s new r → s .n ≡ 0 → s .low ≤ 9 → why R w t ≡ 0
+      → length (itemIn R w t) ≤ length old → new ≡ over (itemIn R w t) old
+  second-walk old s new r h n l e room =
+      let f = fine R w t e in
+      let (ok, p, _) = record-inv R w (f .value) (f .is) in
+      let k : Walked (R .item t) (λ a. lowestOf t (R .texts a)) w (got (f .value) []) old s new r =
+      subst (λ (m : Parsed A). Walked (R .item t) (λ a. lowestOf t (R .texts a)) w m old s new r) (whole-back R w (f .value) ok p) h in
+      rw (f .is) (k .2 .more [] (s .low) old (has-none old s n l) .bytes (f .fits) (rw (f .is) at room))
