@@ -65,6 +65,17 @@ pub given-exactly : (n : ℕ) (b : Bool) (earlier later : List (ℕ × Bool)) �
     → (answer (earlier ++ ((n, b) ∷ later)) ≡ n) ↔ (NoneHolds earlier × (b ≡ true))
 given-exactly n b earlier later z d e = given n b later (λ _. not-given n z later e) earlier d
 
+-- conditions that are judged behind others decide where none of those holds
+pub answer-then : (cs ds : List (ℕ × Bool)) → has 0 cs ≡ false → answer (cs ++ ds) ≡ cond (eqb (answer cs) 0) (answer ds) (answer cs)
+answer-then [] ds d = refl
+answer-then (c ∷ cs) ds d = go (c .1) (eqb (c .0) 0) refl d (answer-then cs ds)
+  where
+    go : (t u : Bool) → eqb (c .0) 0 ≡ u → cond u true (has 0 cs) ≡ false → (has 0 cs ≡ false → answer (cs ++ ds) ≡ cond (eqb (answer cs) 0) (answer ds) (answer cs))
+        → cond t (c .0) (answer (cs ++ ds)) ≡ cond (eqb (cond t (c .0) (answer cs)) 0) (answer ds) (cond t (c .0) (answer cs))
+    go t true e d f = absurd (true≢false d)
+    go true false e d f = rw e
+    go false false e d f = f d
+
 pub neither : (a b : Bool) → (a || b) ≡ false → (a ≡ false) × (b ≡ false)
 neither true b e = absurd (true≢false e)
 neither false b e = (refl, e)

@@ -59,7 +59,7 @@ pub enum Appended {
 }
 
 // A frame's head: the section id, and the item's length in four bytes, low first.
-fn put_head(id: u8, n: usize, out: &mut [u8]) -> Written
+pub fn put_head(id: u8, n: usize, out: &mut [u8]) -> Written
     ensures { λ r. ⌜ Writes (headBytes id n) (now (out .entry)) (now (out .exit)) r ⌝ }
 {
     let head = [

@@ -1,16 +1,43 @@
 -- What a record and its text draw (document 01, Answers by number, 2 to 6), and what is written where they draw nothing. Assumes nothing.
-use mathlib.Core.Path.{_≡_}
-use mathlib.Core.Bool.{cond}
-use mathlib.Core.List.{List}
-use Prim.Native.Nat.{ℕ, _≤_}
+use mathlib.Core.Path.{_≡_, refl, sym, ap, _∙_}
+use mathlib.Core.Bool.{Bool, true, false, cond}
+use mathlib.Core.Option.{Option, none, some}
+use mathlib.Core.List.{List, _∷_}
+use Prim.Native.Nat.{ℕ, _≤_, _<_}
+use native.Mathlib.Omega.{arith}
 use lib.Dec.{eqb}
-use lib.ListN.{length}
-use borrow.Author.Tests.{ne-eqb}
+use lib.ListN.{length, getD}
+use borrow.Author.Tests.{ne-eqb, eqb-true, eqb-false}
 use Rattle.format.specs.Write.{over}
-use Rattle.texts.specs.Judge.{why, itemIn}
-use Rattle.items.specs.Record.{records}
+use Rattle.frames.specs.Frames.{idOf}
+use Rattle.frames.specs.declared.SectionId.{SectionId}
+use Rattle.frames.specs.declared.SectionId.the-variants.{Data}
+use Rattle.texts.specs.Judge.{itemMost, recordIn, why, itemIn, record-inv, fine}
+use Rattle.texts.specs.declared.Span.{Span}
+use Rattle.data.specs.Segment as segments
+use Rattle.items.specs.Record.{Record, segment, sectionOf, words, records}
 use Rattle.items.specs.declared.Judged.{Judged}
 use Rattle.items.specs.declared.Judged.the-variants.{Refused, Length}
+
+-- its section; where there is no record, any
+abbrev pub sectionOr : Option (Record Span) → SectionId
+sectionOr none = Data
+sectionOr (some x) = sectionOf x
+
+abbrev pub sectionIn : List ℕ → SectionId
+sectionIn w = sectionOr (recordIn records w)
+
+-- a record's first word is its section's id
+first-is : (x : Record Span) → (t : List ℕ) × (words .print x ≡ idOf (sectionOf x) ∷ t)
+first-is (segment x) = (segments.words .print x, refl)
+
+pub first-word : (w t : List ℕ) → why records w t ≡ 0 → (0 < length w) × (getD w 0 0 ≡ idOf (sectionIn w))
+first-word w t e =
+    let f = fine records w t e in
+    let p = record-inv records w (f .value) (f .is) in
+    let i = first-is (f .value) in
+    let q : w ≡ idOf (sectionOf (f .value)) ∷ i .0 = p .1 ∙ i .1 in
+    (omega (arith, ap length q), ap (λ (l : List ℕ). getD l 0 0) q ∙ ap (λ (o : Option (Record Span)). idOf (sectionOr o)) (sym (f .is)))
 
 -- the number, or the item's length
 unfoldable pub judgedOf : List ℕ → List ℕ → Judged
@@ -23,6 +50,31 @@ refused-is w t k z e = rw (e, ne-eqb k 0 z)
 pub length-is : (w t : List ℕ) (n : ℕ) → why records w t ≡ 0 → length (itemIn records w t) ≡ n → Length n ≡ judgedOf w t
 unfolding judgedOf
 length-is w t n z e = rw (z, e)
+
+-- what an answer tells
+told : (w t : List ℕ) (b : Bool) → eqb (why records w t) 0 ≡ b → judgedOf w t ≡ cond b (Length (length (itemIn records w t))) (Refused (why records w t))
+unfolding judgedOf
+told w t b e = rw e
+
+pub told-refused : (w t : List ℕ) (k : ℕ) → judgedOf w t ≡ Refused k → (why records w t ≡ k) × (k ≡ 0 → ⊥)
+told-refused w t k e = go (eqb (why records w t) 0) refl
+  where
+    go : (b : Bool) → eqb (why records w t) 0 ≡ b → (why records w t ≡ k) × (k ≡ 0 → ⊥)
+    go true p = let q = sym (told w t true p) ∙ e in let z : _≡_ {A = ℕ} 0 1 = cc in absurd (omega arith)
+    go false p = let q = sym (told w t false p) ∙ e in let r : why records w t ≡ k = cc in (r, λ z. eqb-false (why records w t) 0 p (r ∙ z))
+
+pub told-length : (w t : List ℕ) (n : ℕ) → judgedOf w t ≡ Length n → (why records w t ≡ 0) × (length (itemIn records w t) ≡ n) × (n ≤ itemMost)
+told-length w t n e = go (eqb (why records w t) 0) refl
+  where
+    go : (b : Bool) → eqb (why records w t) 0 ≡ b → (why records w t ≡ 0) × (length (itemIn records w t) ≡ n) × (n ≤ itemMost)
+    go false p = let q = sym (told w t false p) ∙ e in let z : _≡_ {A = ℕ} 0 1 = cc in absurd (omega arith)
+    go true p =
+        let q = sym (told w t true p) ∙ e in
+        let r : length (itemIn records w t) ≡ n = cc in
+        let z = eqb-true (why records w t) 0 p in
+        let f = fine records w t z in
+        let l : length (itemIn records w t) ≤ itemMost = rw (f .is) (f .fits) in
+        (z, r, omega arith)
 
 -- the item stands at the front, where nothing is drawn and there is room
 abbrev pub Puts : List ℕ → List ℕ → List ℕ → List ℕ → Type 0

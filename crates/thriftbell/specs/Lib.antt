@@ -1,0 +1,2 @@
+-- The public entries: what each answers and leaves, for every input.
+pub mod Add
