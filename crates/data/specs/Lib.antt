@@ -1,3 +1,4 @@
--- Data segments: words and bytes over one abstract syntax, and the record of an item.
+-- Data segments: words and bytes over one abstract syntax, the record of an item, and reading after adding.
 pub mod Segment
 pub mod Located
+pub mod Reading

@@ -20,6 +20,27 @@ Walked f g w (got a t) old s new r = (u : Done) × (r ≡ walks.Got (placeOf w t
 abbrev pub Walks : {A : Type 0} → Format A → (A → List ℕ) → (A → ℕ) → List ℕ → ℕ → List ℕ → Done → List ℕ → Walk → Type 0
 Walks W f g w at old s new r = Walked f g w (W .parse (drop at w)) old s new r
 
+-- what an answer tells
+module _ {A : Type 0} (f : A → List ℕ) (g : A → ℕ) (w old : List ℕ) (s : Done) (new : List ℕ) (r : Walk) where
+  pub walked-no : (m : Parsed A) → Walked f g w m old s new r → r ≡ walks.No → m ≡ fail
+  walked-no fail h e = refl
+  walked-no (got a t) h e = let z : _≡_ {A = ℕ} 0 1 = cc (h .1) in absurd (omega arith)
+
+  pub record Found (m : Parsed A) (p : ℕ) (u : Done) : Type 0 where
+    pub value : A
+    pub rest : List ℕ
+    pub is : m ≡ got value rest
+    pub place : placeOf w rest ≡ p
+    pub adds : Adds (f value) (g value) old s new u
+
+  pub walked-got : (m : Parsed A) (p : ℕ) (u : Done) → Walked f g w m old s new r → r ≡ walks.Got p u → Found m p u
+  walked-got fail p u h e = let z : _≡_ {A = ℕ} 0 1 = cc in absurd (omega arith)
+  walked-got (got a t) p u h e =
+      let x : walks.Got (placeOf w t) (h .0) ≡ walks.Got p u = sym (h .1) ∙ e in
+      let pe : placeOf w t ≡ p = cc in
+      let ue : h .0 ≡ u = cc in
+      record { value = a; rest = t; is = refl; place = pe; adds = subst (λ (v : Done). Adds (f a) (g a) old s new v) ue (h .2) }
+
 module _ {A : Type 0} (W : Format A) (f : A → List ℕ) (g : A → ℕ) (w : List ℕ) (at : ℕ) (old : List ℕ) (s : Done) (new : List ℕ) where
   pub walks-no : W .parse (drop at w) ≡ fail → Walks W f g w at old s new walks.No
   walks-no e = rw e refl
@@ -28,11 +49,7 @@ module _ {A : Type 0} (W : Format A) (f : A → List ℕ) (g : A → ℕ) (w : L
   walks-got a p u e h d = rw e (u, rw (place-at w p h), d)
 
   pub no-walks : (r : Walk) → Walks W f g w at old s new r → r ≡ walks.No → W .parse (drop at w) ≡ fail
-  no-walks r h e = go (W .parse (drop at w)) h
-    where
-      go : (m : Parsed A) → Walked f g w m old s new r → m ≡ fail
-      go fail h = refl
-      go (got a t) h = let z : _≡_ {A = ℕ} 0 1 = cc (h .1) in absurd (omega arith)
+  no-walks r h e = walked-no f g w old s new r (W .parse (drop at w)) h e
 
   pub record Gone (p : ℕ) (u : Done) : Type 0 where
     pub value : A
@@ -41,21 +58,15 @@ module _ {A : Type 0} (W : Format A) (f : A → List ℕ) (g : A → ℕ) (w : L
     pub adds : Adds (f value) (g value) old s new u
 
   pub got-walks : (r : Walk) (p : ℕ) (u : Done) → Walks W f g w at old s new r → r ≡ walks.Got p u → Gone p u
-  got-walks r p u h e = go (W .parse (drop at w)) refl h
-    where
-      go : (m : Parsed A) → W .parse (drop at w) ≡ m → Walked f g w m old s new r → Gone p u
-      go fail q h = let z : _≡_ {A = ℕ} 0 1 = cc in absurd (omega arith)
-      go (got a t) q h =
-          let x : walks.Got (placeOf w t) (h .0) ≡ walks.Got p u = sym (h .1) ∙ e in
-          let pe : placeOf w t ≡ p = cc in
-          let ue : h .0 ≡ u = cc in
-          let ra = rest-at W w at a t q in
-          record {
-            value = a;
-            read = q ∙ ap (λ (l : List ℕ). got a l) (ra .0) ∙ ap (λ (k : ℕ). got a (drop k w)) pe;
-            place = subst (λ (k : ℕ). k ≤ length w) pe (ra .1);
-            adds = subst (λ (v : Done). Adds (f a) (g a) old s new v) ue (h .2);
-          }
+  got-walks r p u h e =
+      let q = walked-got f g w old s new r (W .parse (drop at w)) p u h e in
+      let ra = rest-at W w at (q .value) (q .rest) (q .is) in
+      record {
+        value = q .value;
+        read = q .is ∙ ap (λ (l : List ℕ). got (q .value) l) (ra .0) ∙ ap (λ (k : ℕ). got (q .value) (drop k w)) (q .place);
+        place = subst (λ (k : ℕ). k ≤ length w) (q .place) (ra .1);
+        adds = q .adds;
+      }
 
 -- a walk whose first part is done already: pre was appended, and what is left is another walk's
 pub walks-tail : {A B : Type 0} (W : Format A) (f : A → List ℕ) (g : A → ℕ) (X : Format B) (f′ : B → List ℕ) (g′ : B → ℕ) (h : A → B) (pre : List ℕ) (l : ℕ) (w : List ℕ) (at at′ : ℕ)

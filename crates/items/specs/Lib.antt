@@ -1,3 +1,4 @@
--- The sum over the sections, and what its records draw.
+-- The sum over the sections, what its records draw, and reading after adding.
 pub mod Record
 pub mod Judging
+pub mod Reading

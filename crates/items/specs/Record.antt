@@ -48,8 +48,8 @@ abbrev pub records : Records (Record Span)
 records = record { words = words; texts = textsOf; item = itemOf }
 
 -- what stands at the front of a section's bytes; other ids have no items
-abbrev pub itemIn : ℕ → List ℕ → Parsed (Record (List ℕ))
-itemIn id s = cond (eqb id 11) (map segment (segments.bytes .parse s)) fail
+abbrev pub readIn : ℕ → List ℕ → Parsed (Record (List ℕ))
+readIn id s = cond (eqb id 11) (map segment (segments.bytes .parse s)) fail
 
 -- the record's words that reading writes: its spans point into the bytes
 abbrev pub recordOf : Record (List ℕ) → List ℕ

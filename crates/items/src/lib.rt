@@ -6,7 +6,7 @@ ghost use mathlib.Core.Path.{_≡_};
 ghost use Prim.Native.Nat.{_≤_};
 ghost use lib.ListN.{length};
 ghost use Rattle.format.specs.Walk.{Walked, Walks};
-ghost use Rattle.items.specs.Record.{words as wordsOf, itemOf, lowOf, itemIn, recordOf};
+ghost use Rattle.items.specs.Record.{words as wordsOf, itemOf, lowOf, readIn, recordOf};
 ghost use Rattle.items.specs.Judging.{judgedOf, Puts};
 
 // Reads a record's words and appends its item.
@@ -25,7 +25,7 @@ pub fn walk_words(words: &[u32], text: &[u8], out: &mut [u8], s: Done) -> Walk
 // Reads an item and appends its record's words.
 pub fn walk_bytes(id: u8, bytes: &[u8], out: &mut [u32], s: Done) -> Walk
     requires { ⌜ length (now bytes) ≤ 65536 ⌝ }
-    ensures { λ r. ⌜ Walked recordOf (λ x. 9) (now (bytes .entry)) (itemIn id (now (bytes .entry))) (now (out .entry)) s (now (out .exit)) r ⌝ }
+    ensures { λ r. ⌜ Walked recordOf (λ x. 9) (now (bytes .entry)) (readIn id (now (bytes .entry))) (now (out .entry)) s (now (out .exit)) r ⌝ }
 {
     if id == 11 {
         let t = append_word(11, out, s);

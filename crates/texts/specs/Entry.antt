@@ -1,14 +1,14 @@
 -- What a walk over a record's words tells about the answer, for an entry that measures first and writes only what it accepts. Assumes nothing.
 use mathlib.Core.Path.{_≡_, refl, sym, ap, subst, _∙_}
-use mathlib.Core.Option.{Option, none, some}
-use mathlib.Core.List.{List, [], _∷_, _++_, append-nil}
+use mathlib.Core.Option.{some}
+use mathlib.Core.List.{List, [], _∷_, append-nil}
 use Prim.Native.Nat.{ℕ, _≤_, _<_}
 use native.Mathlib.Omega.{arith}
 use lib.Dec.{ltb}
 use lib.ListN.{length, drop}
 use lib.Seq.{drop-length}
 use borrow.Author.Tests.{lt-ltb, le-ltb}
-use Rattle.format.specs.Parsed.{Parsed, fail, got, got-rest, fail-got}
+use Rattle.format.specs.Parsed.{Parsed, got, got-rest, fail-got}
 use Rattle.format.specs.Read.{same-place}
 use Rattle.format.specs.Write.{over}
 use Rattle.format.specs.Count.{counted, Has, adds-fresh}
@@ -17,7 +17,7 @@ use Rattle.format.specs.declared.Done.{Done}
 use Rattle.format.specs.declared.Walk.{Walk}
 use Rattle.format.specs.declared.Walk.the-variants as walks
 use Rattle.texts.specs.Text.{lowestOf, lowest-small}
-use Rattle.texts.specs.Judge.{Records, wordsMost, textMost, itemMost, recordIn, itemIn, why, two-exactly, whole-back, record-inv, record-back, no-record-exactly, Fine, fine, fine-accepted, drawn-first, drawn-none}
+use Rattle.texts.specs.Judge.{Records, wordsMost, textMost, itemMost, recordIn, itemIn, why, two-exactly, whole-back, record-inv, record-back, no-record-exactly, fine, fine-accepted, drawn-first, drawn-none}
 
 module _ {A : Type 0} (R : Records A) (w t : List ℕ) where
   -- the walk that an add makes over its words

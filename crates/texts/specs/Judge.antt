@@ -31,7 +31,7 @@ abbrev pub anyOf : {A : Type 0} → (A → Bool) → List A → Bool
 anyOf p [] = false
 anyOf p (a ∷ l) = p a || anyOf p l
 
--- ---- what a text can be refused for
+-- ---- what a text can be refused for (document 01, Answers by number, 3 to 5)
 
 -- a span ends past the text
 abbrev pub endsPast : List ℕ → Kind × Span → Bool
@@ -144,13 +144,15 @@ module _ {A : Type 0} (R : Records A) where
   abbrev pub itemIn : List ℕ → List ℕ → List ℕ
   itemIn w t = orNothing (R .item t) (recordIn w)
 
+  -- ---- document 01, Answers by number, 2 to 6, row by row
+
   -- words are no record, more than 4,096, or some left over
   abbrev pub isNoRecord : List ℕ → Bool
   isNoRecord w = isNone (recordIn w)
 
   -- text too long, or a span ends past it
-  abbrev pub isTextShort : List ℕ → List ℕ → Bool
-  isTextShort w t = ltb textMost (length t) || anyOf (endsPast t) (textsIn w)
+  abbrev pub hasBadText : List ℕ → List ℕ → Bool
+  hasBadText w t = ltb textMost (length t) || anyOf (endsPast t) (textsIn w)
 
   -- a name is not UTF-8
   abbrev pub hasBadName : List ℕ → List ℕ → Bool
@@ -164,8 +166,9 @@ module _ {A : Type 0} (R : Records A) where
   abbrev pub isLarge : List ℕ → List ℕ → Bool
   isLarge w t = ltb itemMost (length (itemIn w t))
 
+  -- lowest first
   abbrev pub conditions : List ℕ → List ℕ → List (ℕ × Bool)
-  conditions w t = (2, isNoRecord w) ∷ (3, isTextShort w t) ∷ (4, hasBadName w t) ∷ (5, hasBadExpr w t) ∷ (6, isLarge w t) ∷ []
+  conditions w t = (2, isNoRecord w) ∷ (3, hasBadText w t) ∷ (4, hasBadName w t) ∷ (5, hasBadExpr w t) ∷ (6, isLarge w t) ∷ []
 
   abbrev pub why : List ℕ → List ℕ → ℕ
   why w t = answer (conditions w t)
@@ -176,8 +179,8 @@ module _ {A : Type 0} (R : Records A) where
     pub two-exactly : (why w t ≡ 2) ↔ (NoneHolds [] × (isNoRecord w ≡ true))
     two-exactly = given-exactly 2 (isNoRecord w) [] (drop 1 (conditions w t)) (λ e. omega arith) refl refl
 
-    pub three-exactly : (why w t ≡ 3) ↔ (NoneHolds (take 1 (conditions w t)) × (isTextShort w t ≡ true))
-    three-exactly = given-exactly 3 (isTextShort w t) (take 1 (conditions w t)) (drop 2 (conditions w t)) (λ e. omega arith) refl refl
+    pub three-exactly : (why w t ≡ 3) ↔ (NoneHolds (take 1 (conditions w t)) × (hasBadText w t ≡ true))
+    three-exactly = given-exactly 3 (hasBadText w t) (take 1 (conditions w t)) (drop 2 (conditions w t)) (λ e. omega arith) refl refl
 
     pub four-exactly : (why w t ≡ 4) ↔ (NoneHolds (take 2 (conditions w t)) × (hasBadName w t ≡ true))
     four-exactly = given-exactly 4 (hasBadName w t) (take 2 (conditions w t)) (drop 3 (conditions w t)) (λ e. omega arith) refl refl

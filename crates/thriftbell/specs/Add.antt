@@ -47,8 +47,8 @@ module _ (used : ℕ) (xs w t : List ℕ) where
   pub two-exactly : (adding .number ≡ 2) ↔ (NoneHolds (take 1 conditions) × (judge.isNoRecord records w ≡ true))
   two-exactly = exactly (given-exactly 2 (judge.isNoRecord records w) (take 1 conditions) (drop 2 conditions) (λ e. omega arith) refl refl)
 
-  pub three-exactly : (adding .number ≡ 3) ↔ (NoneHolds (take 2 conditions) × (judge.isTextShort records w t ≡ true))
-  three-exactly = exactly (given-exactly 3 (judge.isTextShort records w t) (take 2 conditions) (drop 3 conditions) (λ e. omega arith) refl refl)
+  pub three-exactly : (adding .number ≡ 3) ↔ (NoneHolds (take 2 conditions) × (judge.hasBadText records w t ≡ true))
+  three-exactly = exactly (given-exactly 3 (judge.hasBadText records w t) (take 2 conditions) (drop 3 conditions) (λ e. omega arith) refl refl)
 
   pub four-exactly : (adding .number ≡ 4) ↔ (NoneHolds (take 3 conditions) × (judge.hasBadName records w t ≡ true))
   four-exactly = exactly (given-exactly 4 (judge.hasBadName records w t) (take 3 conditions) (drop 4 conditions) (λ e. omega arith) refl refl)

@@ -1,2 +1,3 @@
 -- The public entries: what each answers and leaves, for every input.
 pub mod Add
+pub mod Read

@@ -1,9 +1,15 @@
 // The public entries: a store of records, the module that is built of it, and the reader of its items.
+use format::Done;
+use format::Walk;
+use format::least;
 use frames::STORE_MOST;
 use frames::State;
 use items::Judged;
 ghost use mathlib.Core.Path.{_≡_};
+ghost use Prim.Native.Nat.{_≤_};
+ghost use lib.ListN.{length};
 ghost use Rattle.thriftbell.specs.Add.{outcome, adding};
+ghost use Rattle.thriftbell.specs.Read.{outcome as readOutcome, reading};
 
 // What adding answers: the state with the frame's room used too; or a number of the table, and then nothing was changed.
 pub enum Added {
@@ -34,4 +40,37 @@ pub fn add(state: State, store: &mut [u8], words: &[u32], text: &[u8]) -> Added
     frames::put_head(words[0] as u8, n, &mut store[at..]);
     items::put_item(words, text, &mut store[from..]);
     Added::To(State { used: next })
+}
+
+// What reading answers: how many words it wrote and bytes it took; or a number of the table, and then nothing was changed.
+pub enum Taken {
+    Took(usize, usize),
+    Refused(u32),
+}
+
+// Measured first, so that a refusal changes nothing.
+fn read_front(id: u8, front: &[u8], out: &mut [u32]) -> Taken
+    requires { ⌜ length (now front) ≤ 65536 ⌝ }
+    ensures { λ r. ⌜ readOutcome r (now (out .exit)) ≡ reading id (now (front .entry)) (now (out .entry)) ⌝ }
+{
+    let mut none = [0u32; 1];
+    let Walk::Got(end, s) = items::walk_bytes(id, front, &mut none, Done { n: 0, low: 9 }) else {
+        return Taken::Refused(11);
+    };
+    if 4096 < s.n {
+        return Taken::Refused(11);
+    }
+    if out.len() < s.n {
+        return Taken::Refused(10);
+    }
+    items::walk_bytes(id, front, out, Done { n: 0, low: 9 });
+    Taken::Took(s.n, end)
+}
+
+// Bytes behind the first 65,536 are not looked at.
+pub fn read_item(id: u8, bytes: &[u8], out: &mut [u32]) -> Taken
+    ensures { λ r. ⌜ readOutcome r (now (out .exit)) ≡ reading id (now (bytes .entry)) (now (out .entry)) ⌝ }
+{
+    let end = least(65536, bytes.len());
+    read_front(id, &bytes[0..end], out)
 }

@@ -12,7 +12,7 @@ use Rattle.format.specs.declared.Done.{Done}
 use Rattle.format.specs.declared.Walk.{Walk}
 use Rattle.data.specs.Segment.{bytes}
 use Rattle.data.specs.Located.{recordAt}
-use Rattle.items.specs.Record.{Record, segment, segmentOf, segment-back, itemIn, recordOf}
+use Rattle.items.specs.Record.{Record, segment, segmentOf, segment-back, readIn, recordOf}
 use Rattle.items.proofs.walk_bytes.Statement.{statement}
 use Rattle.items.proofs.walk_bytes.Tie as tie
 
@@ -25,7 +25,7 @@ returns c =
     let f = c .before .before .before .before .before .before .before .before in
     let a = f .before .before .before .args in
     let b = now (a .bytes) in
-    let e : itemIn (a .id) b ≡ map segment (bytes .parse b) = rw (f .if1 .taken) in
+    let e : readIn (a .id) b ≡ map segment (bytes .parse b) = rw (f .if1 .taken) in
     let w = walks-tail bytes (recordAt 0) (λ x. 9) (iso bytes segmentOf segment segment-back (λ x. refl)) recordOf (λ x. 9) segment (11 ∷ []) 9 b 0 0 (now (a .out)) (a .s) _ _ _ _ refl (λ x. refl) (λ x. refl) (c .before .before .before .before .before .before .append-word .ensures) (c .before .before .walk-bytes .ensures) in
     walked-as b _ _ (now (a .out)) (a .s) _ _ e w
 
