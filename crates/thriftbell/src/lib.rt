@@ -1,9 +1,29 @@
 // The public entries: a store of records, the module that is built of it, and the reader of its items.
+pub use exprs::check_expr;
+pub use exprs::i32_const;
+pub use exprs::i64_const;
+pub use format::Written;
+pub use frames::State;
+pub use module::Finished;
+pub use module::Module;
+pub use module::finish;
+pub use numbers::ReadI32;
+pub use numbers::ReadI64;
+pub use numbers::ReadU32;
+pub use numbers::ReadU64;
+pub use numbers::decode_i32;
+pub use numbers::decode_i64;
+pub use numbers::decode_u32;
+pub use numbers::decode_u64;
+pub use numbers::encode_i32;
+pub use numbers::encode_i64;
+pub use numbers::encode_u32;
+pub use numbers::encode_u64;
+
 use format::Done;
 use format::Walk;
 use format::least;
 use frames::STORE_MOST;
-use frames::State;
 use items::Judged;
 ghost use mathlib.Core.Path.{_≡_};
 ghost use Prim.Native.Nat.{_≤_};
