@@ -75,7 +75,7 @@ module _ (used : ℕ) (xs w t : List ℕ) where
   over-limit h = refuses 1 (λ e. omega arith) (rw (lt-ltb storeMost (length xs) h))
 
   -- 2 to 6 first, and then 7
-  then-room : answer (judge.conditions records w t ++ ((7, isFull used xs (itemIn records w t)) ∷ [])) ≡ cond (eqb (why records w t) 0) (cond (isFull used xs (itemIn records w t)) 7 0) (why records w t)
+  pub then-room : answer (judge.conditions records w t ++ ((7, isFull used xs (itemIn records w t)) ∷ [])) ≡ cond (eqb (why records w t) 0) (cond (isFull used xs (itemIn records w t)) 7 0) (why records w t)
   then-room = answer-then (judge.conditions records w t) ((7, isFull used xs (itemIn records w t)) ∷ []) refl
 
   module _ (h : length xs ≤ storeMost) where
@@ -98,3 +98,22 @@ module _ (used : ℕ) (xs w t : List ℕ) where
         fits m =
             let z : answer conditions ≡ 0 = rw not-over (then-room ∙ rw (eq-eqb (why records w t) 0 e, le-ltb (length xs) (used + length (itemIn records w t) + 5) m)) in
             sym (settled-accepts (refused used xs) added (answer conditions) z)
+
+-- any two answers and stores that the contract allows are equal
+module _ (used : ℕ) (xs w t : List ℕ) where
+  -- accepted, it has used more room
+  more-room : adding used xs w t .number ≡ 0 → adding used xs w t .used ≡ used → ⊥
+  unfolding adding
+  more-room z e =
+      let a : answer (conditions used xs w t) ≡ 0 = accepted-exactly (conditions used xs w t) refl .1 (zero-exactly used xs w t .0 z) in
+      let o = settled-accepts (refused used xs) (added used xs w t) (answer (conditions used xs w t)) a in
+      omega (arith, ap (λ (o : Outcome). o .used) o)
+
+  pub one-added : {r s : Added} {ys zs : List ℕ} → outcome used r ys ≡ adding used xs w t → outcome used s zs ≡ adding used xs w t → (r ≡ s) × (ys ≡ zs)
+  one-added {r} {s} {ys} {zs} p q = go r s p q
+    where
+      go : (r s : Added) → outcome used r ys ≡ adding used xs w t → outcome used s zs ≡ adding used xs w t → (r ≡ s) × (ys ≡ zs)
+      go (To a) (To b) p q = let e = p ∙ sym q in (ap (λ (n : ℕ). To (record { used = n })) (ap (λ (o : Outcome). o .used) e), ap (λ (o : Outcome). o .store) e)
+      go (To a) (Refused k) p q = absurd (more-room (sym (ap (λ (o : Outcome). o .number) p)) (sym (ap (λ (o : Outcome). o .used) q)))
+      go (Refused k) (To b) p q = absurd (more-room (sym (ap (λ (o : Outcome). o .number) q)) (sym (ap (λ (o : Outcome). o .used) p)))
+      go (Refused k) (Refused l) p q = let e = p ∙ sym q in (ap Refused (ap (λ (o : Outcome). o .number) e), ap (λ (o : Outcome). o .store) e)

@@ -1,7 +1,7 @@
 -- What reading an item answers and leaves, for every input (document 01, Answers by number, Reading an item: 11, 10). Assumes nothing.
 use mathlib.Core.Path.{_≡_, refl, sym, ap, _∙_}
 use mathlib.Core.Logic.{_↔_}
-use mathlib.Core.Bool.{Bool, true, false, cond}
+use mathlib.Core.Bool.{Bool, true, false, cond, true≢false}
 use mathlib.Core.Option.{Option, none, some}
 use mathlib.Core.List.{List, [], _∷_}
 use Prim.Native.Nat.{ℕ, _≤_, _<_}
@@ -14,7 +14,7 @@ use Rattle.format.specs.Read.{placeOf}
 use Rattle.format.specs.Write.{over}
 use Rattle.format.specs.Answers.{answer, NoneHolds, given-exactly, accepted-exactly, settled, settled-accepts, settled-refuses, settled-exactly, one-stands}
 use Rattle.texts.specs.Judge.{wordsMost}
-use Rattle.items.specs.Record.{Record, readIn, recordOf}
+use Rattle.items.specs.Record.{Record, segment, readIn, recordOf}
 use Rattle.thriftbell.specs.declared.Taken.{Taken}
 use Rattle.thriftbell.specs.declared.Taken.the-variants.{Took, Refused}
 
@@ -123,3 +123,41 @@ module _ (id : ℕ) (bytes out : List ℕ) where
 pub only-front : (id : ℕ) (b c out : List ℕ) → frontOf b ≡ frontOf c → reading id b out ≡ reading id c out
 unfolding reading wordsIn
 only-front id b c out e = rw e
+
+-- any two answers and outputs that the contract allows are equal
+module _ (id : ℕ) (bytes out : List ℕ) where
+  -- a record has some words
+  some-words : isNothing (wordsIn id bytes out) ≡ false → 0 < length (wordsOf (wordsIn id bytes out))
+  unfolding wordsIn
+  some-words e = go (readIn id (frontOf bytes)) e
+    where
+      few : (x : Record (List ℕ)) (r : List ℕ) (t : Bool) → isNothing (cond t (some (recordOf x, placeOf (frontOf bytes) r)) none) ≡ false
+          → 0 < length (wordsOf (cond t (some (recordOf x, placeOf (frontOf bytes) r)) none))
+      few x r false e = absurd (true≢false e)
+      few (segment x) r true e = omega arith
+
+      go : (m : Parsed (Record (List ℕ))) → isNothing (readOf (frontOf bytes) m) ≡ false → 0 < length (wordsOf (readOf (frontOf bytes) m))
+      go fail e = absurd (true≢false e)
+      go (got x r) e = few x r (leb (length (recordOf x)) wordsMost) e
+
+  -- accepted, it has written some
+  some-written : reading id bytes out .number ≡ 0 → reading id bytes out .words ≡ 0 → ⊥
+  unfolding reading
+  some-written z e =
+      let h = zero-exactly id bytes out .0 z in
+      let a : answer (conditions id bytes out) ≡ 0 = accepted-exactly (conditions id bytes out) refl .1 h in
+      let o = settled-accepts (refused out) (took id bytes out) (answer (conditions id bytes out)) a in
+      omega (arith, ap (λ (o : Outcome). o .words) o, some-words (h .0))
+
+  pub one-read : {r s : Taken} {ys zs : List ℕ} → outcome r ys ≡ reading id bytes out → outcome s zs ≡ reading id bytes out → (r ≡ s) × (ys ≡ zs)
+  one-read {r} {s} {ys} {zs} p q = go r s p q
+    where
+      go : (r s : Taken) → outcome r ys ≡ reading id bytes out → outcome s zs ≡ reading id bytes out → (r ≡ s) × (ys ≡ zs)
+      go (Took m n) (Took k l) p q =
+          let e = p ∙ sym q in
+          let f = ap (λ (o : Outcome). o .words) e in
+          let g = ap (λ (o : Outcome). o .taken) e in
+          ((λ i. Took (f i) (g i)), ap (λ (o : Outcome). o .memory) e)
+      go (Took m n) (Refused k) p q = absurd (some-written (sym (ap (λ (o : Outcome). o .number) p)) (sym (ap (λ (o : Outcome). o .words) q)))
+      go (Refused k) (Took m n) p q = absurd (some-written (sym (ap (λ (o : Outcome). o .number) q)) (sym (ap (λ (o : Outcome). o .words) p)))
+      go (Refused k) (Refused l) p q = let e = p ∙ sym q in (ap Refused (ap (λ (o : Outcome). o .number) e), ap (λ (o : Outcome). o .memory) e)

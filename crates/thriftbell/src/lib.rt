@@ -2,8 +2,13 @@
 pub use exprs::check_expr;
 pub use exprs::i32_const;
 pub use exprs::i64_const;
+use format::Done;
+use format::Walk;
 pub use format::Written;
+use format::least;
+use frames::STORE_MOST;
 pub use frames::State;
+use items::Judged;
 pub use module::Finished;
 pub use module::Module;
 pub use module::finish;
@@ -19,12 +24,6 @@ pub use numbers::encode_i32;
 pub use numbers::encode_i64;
 pub use numbers::encode_u32;
 pub use numbers::encode_u64;
-
-use format::Done;
-use format::Walk;
-use format::least;
-use frames::STORE_MOST;
-use items::Judged;
 ghost use mathlib.Core.Path.{_≡_};
 ghost use Prim.Native.Nat.{_≤_};
 ghost use lib.ListN.{length};
