@@ -4,7 +4,7 @@ use mathlib.Core.Path.{_≡_, refl, sym, ap, _∙_}
 use mathlib.Core.Logic.{_↔_}
 use mathlib.Core.Bool.{Bool, true, false, cond}
 use mathlib.Core.Option.{some}
-use mathlib.Core.List.{List, _++_}
+use mathlib.Core.List.{List, [], _++_}
 use Prim.Native.Nat.{ℕ, _≤_}
 use native.Mathlib.Omega.{arith}
 use lib.Dec.{eqb}
@@ -19,7 +19,7 @@ use Rattle.texts.specs.Reading as reading
 use Rattle.texts.specs.declared.Span.{Span}
 use Rattle.data.specs.Segment.{Segment, passive, active, mapped, bytes}
 use Rattle.data.specs.Located.{locate}
-use Rattle.data.specs.Reading.{dataSection}
+use Rattle.data.specs.Reading.{dataSection, located}
 use Rattle.items.specs.Record.{Record, segment, sectionOf, records, recordOf, readIn}
 
 -- ---- data segments
@@ -50,11 +50,12 @@ add-reads w t (segment x) r p y =
     let e = sym (segments-read (itemIn records w t ++ r)) ∙ reading.add-reads segments records segments-among w t x p y r in
     ap (map segment) e
 
--- adding the record that is read, with the bytes themselves as its text, writes the bytes that were taken
+-- adding the record that is read, with the bytes themselves as its text, writes the bytes that were taken; it is the same record but for where spans lie
 pub record ReadAdds (id : ℕ) (s : List ℕ) (x : Record (List ℕ)) (r : List ℕ) : Type 0 where
   pub value : Record Span
   pub is : recordIn records (recordOf x) ≡ some value
   pub section : idOf (sectionOf value) ≡ id
+  pub same : resolved s value ≡ x
   pub accepted : why records (recordOf x) s ≡ 0
   pub item : itemIn records (recordOf x) s ++ r ≡ s
 
@@ -72,6 +73,7 @@ read-adds id s (segment x) r e h = go (eqb id 11) refl e
           value = segment (locate 0 x);
           is = g .is;
           section = sym (eqb-true id 11 p);
+          same = ap segment (ap (λ (l : List ℕ). mapped (sliceOf l) (locate 0 x)) (bytes .only s x r b .1) ∙ located [] r x);
           accepted = g .accepted;
           item = ap (λ (l : List ℕ). l ++ r) (g .item) ∙ sym (bytes .only s x r b .1);
         }
