@@ -1,4 +1,4 @@
-// Answers the oracle's calls (src/entries.rs) by the proved functions, those that there are so far: finish, write, number, check, const. One line in, one line out; other
+// Answers the oracle's calls (src/entries.rs) by the proved functions. One line in, one line out; other
 // calls are answered by a blank line. A refusal that leaves a byte changed, or a length beside it, ends the program.
 use std::io::{read_to_string, stdin};
 
@@ -14,6 +14,8 @@ extern "C" {
     fn thriftbell_check_expr(s: *const u8, len: usize) -> u32;
     fn thriftbell_i32_const(v: i32, out: *mut u8, len: usize) -> usize;
     fn thriftbell_i64_const(v: i64, out: *mut u8, len: usize) -> usize;
+    fn thriftbell_add(used: *mut usize, store: *mut u8, store_len: usize, words: *const u32, words_len: usize, text: *const u8, text_len: usize) -> u32;
+    fn thriftbell_read_item(id: u8, bytes: *const u8, len: usize, out: *mut u32, out_len: usize, words: *mut usize, taken: *mut usize) -> u32;
     fn thriftbell_finish(used: usize, store: *const u8, store_len: usize, order: *const u8, order_len: usize, count: u32, out: *mut u8, out_len: usize, length: *mut usize) -> u32;
 }
 
@@ -39,6 +41,35 @@ fn finish(used: usize, length: usize, store: &str, order: &str, count: u32, out:
     };
     kept(&out, n);
     if answer == 0 { format!("00 {}", shown(&out[..n])) } else { assert_eq!(n, 0); format!("{answer:02X}") }
+}
+
+// Nothing but the frame may change in the store, and nothing at all where it is refused.
+fn add(used: usize, length: usize, store: &str, words: &str, text: &str) -> String {
+    let (mut before, words, text, mut next) = (unhex(store), unhex(words), unhex(text), used);
+    before.resize(length, 0);
+    let words: Vec<u32> = words.chunks(4).map(|w| u32::from_be_bytes(w.try_into().unwrap())).collect();
+    let mut store = before.clone();
+    let answer = unsafe {
+        thriftbell_add(&mut next, store.as_mut_ptr(), store.len(), words.as_ptr(), words.len(), text.as_ptr(), text.len())
+    };
+    if answer != 0 {
+        assert!(next == used && store == before, "a refusal changed something");
+        return format!("{answer:02X}");
+    }
+    assert!(store[..used] == before[..used] && store[next..] == before[next..], "a byte changed that must not");
+    format!("00 {next} {}", shown(&store[used..next]))
+}
+
+fn read(id: u8, out: usize, bytes: &str) -> String {
+    let (bytes, mut out, mut words, mut taken) = (unhex(bytes), vec![0xA5A5A5A5u32; out], 99, 99);
+    let answer = unsafe { thriftbell_read_item(id, bytes.as_ptr(), bytes.len(), out.as_mut_ptr(), out.len(), &mut words, &mut taken) };
+    assert!(out[words..].iter().all(|&w| w == 0xA5A5A5A5), "a word changed that must not");
+    if answer == 0 {
+        format!("00 {taken} {}", shown(&out[..words].iter().flat_map(|w| w.to_be_bytes()).collect::<Vec<_>>()))
+    } else {
+        assert_eq!((words, taken), (0, 0));
+        format!("{answer:02X}")
+    }
 }
 
 fn check(bytes: &str) -> String {
@@ -91,6 +122,8 @@ fn main() {
             ["finish", used, length, store, order, count, out] => {
                 finish(used.parse().unwrap(), length.parse().unwrap(), store, order, count.parse().unwrap(), out.parse().unwrap())
             }
+            ["add", used, length, store, words, text] => add(used.parse().unwrap(), length.parse().unwrap(), store, words, text),
+            ["read", id, out, bytes] => read(id.parse().unwrap(), out.parse().unwrap(), bytes),
             ["write", ty, value, out] => number(ty, Ok((value, out.parse().unwrap()))),
             ["number", ty, bytes] => number(ty, Err(bytes)),
             ["check", bytes] => check(bytes),

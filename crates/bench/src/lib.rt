@@ -9,6 +9,8 @@ use numbers::ReadI32;
 use numbers::ReadI64;
 use numbers::ReadU32;
 use numbers::ReadU64;
+use thriftbell::Added;
+use thriftbell::Taken;
 
 fn length(w: Written) -> usize {
     match w {
@@ -105,6 +107,42 @@ pub extern "C" fn thriftbell_append(
         Appended::Over => 1,
         Appended::Large => 6,
         Appended::Full => 7,
+    }
+}
+
+#[no_mangle]
+pub extern "C" fn thriftbell_add(
+    used: &mut usize,
+    store: &mut [u8],
+    words: &[u32],
+    text: &[u8],
+) -> u32 {
+    match thriftbell::add(State { used: *used }, store, words, text) {
+        Added::To(state) => {
+            *used = state.used;
+            0
+        }
+        Added::Refused(k) => k,
+    }
+}
+
+#[no_mangle]
+pub extern "C" fn thriftbell_read_item(
+    id: u8,
+    bytes: &[u8],
+    out: &mut [u32],
+    words: &mut usize,
+    taken: &mut usize,
+) -> u32 {
+    *words = 0;
+    *taken = 0;
+    match thriftbell::read_item(id, bytes, out) {
+        Taken::Took(m, n) => {
+            *words = m;
+            *taken = n;
+            0
+        }
+        Taken::Refused(k) => k,
     }
 }
 
