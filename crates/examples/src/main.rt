@@ -1,15 +1,18 @@
 // The checked examples of document 01: each is written, shown in hexadecimal and read back, and the file stdout has what the document says.
 // specs/Examples.antt proves those marked P.
 use format::Written;
-use frames::Appended;
-use frames::SectionId;
 use frames::State;
 use libc::STDOUT_FILENO;
 use module::Finished;
 use numbers::ReadI32;
 use numbers::ReadI64;
 use numbers::ReadU64;
+use thriftbell::Added;
+use thriftbell::Taken;
 ghost use Prim.Native.Nat.{_<_};
+
+// A passive data record, of the first byte of its text.
+const PASSIVE: [u32; 7] = [11, 0, 0, 0, 0, 0, 1];
 
 fn say(text: &[u8]) {
     io::write_all(STDOUT_FILENO, text);
@@ -110,20 +113,20 @@ fn short() {
     say(b"\n");
 }
 
-// What an append answered, in words.
-fn show_appended(a: Appended) {
+fn refused(k: u32) {
+    say(b" refused, ");
+    io::print_decimal(STDOUT_FILENO, k as u64);
+    say(b"\n");
+}
+
+// What an add answered, in words.
+fn show_added(a: Added) {
     match a {
-        Appended::To(_) => {
+        Added::To(_) => {
             say(b" accepted\n");
         }
-        Appended::Over => {
-            say(b" refused, 1\n");
-        }
-        Appended::Large => {
-            say(b" refused, 6\n");
-        }
-        Appended::Full => {
-            say(b" refused, 7\n");
+        Added::Refused(k) => {
+            refused(k);
         }
     }
 }
@@ -155,21 +158,39 @@ fn show_module(state: State, store: &[u8], out: &mut [u8]) {
     show_finished(module::finish(state, store, &order, 1, out), out);
 }
 
-// The module part of the whole case: a passive data item, the byte 41; and the same with one byte of output too few.
+// The whole case: a passive data record, the byte 41; and the same with one byte of output too few.
 fn whole_case() {
     let mut store = [0u8; 32];
     let mut out = [0u8; 17];
     let mut less = [0u8; 16];
-    let item = [0x01, 0x01, 0x41];
-    let Appended::To(state) = frames::append(State::new(), &mut store, SectionId::Data, &item)
-    else {
-        say(b"not appended\n");
+    let Added::To(state) = thriftbell::add(State::new(), &mut store, &PASSIVE, b"A") else {
+        say(b"not added\n");
         return;
     };
-    say(b"data count and data, a passive item:");
+    say(b"data count and data, a passive record:");
     show_module(state, &store, &mut out);
     say(b"into one byte less:");
     show_module(state, &store, &mut less);
+}
+
+// Active data at 42, "hello"; and its record, read back.
+fn hello() {
+    let words = [11, 1, 0, 0, 3, 3, 5];
+    let mut store = [0u8; 15];
+    let mut back = [0u32; 7];
+    let answer = thriftbell::add(State::new(), &mut store, &words, b"\x41\x2A\x0Bhello");
+    say(b"active data at 42, hello:");
+    show_added(answer);
+    say(b"its item:");
+    show(&store[5..], 10);
+    match thriftbell::read_item(11, &store[5..], &mut back) {
+        Taken::Took(n, taken) => {
+            end(n == 7 && taken == 10 && back[4] == 3 && back[6] == 5);
+        }
+        Taken::Refused(_) => {
+            end(false);
+        }
+    }
 }
 
 fn empty_order() {
@@ -182,11 +203,10 @@ fn empty_order() {
 // A frame that fills the store exactly, and one that would by a byte not fit.
 fn full_store() {
     let mut store = [0u8; 8];
-    let item = [0x01, 0x01, 0x41];
     say(b"an item of 3 bytes into a store of 8:");
-    show_appended(frames::append(State::new(), &mut store, SectionId::Data, &item));
+    show_added(thriftbell::add(State::new(), &mut store, &PASSIVE, b"A"));
     say(b"into a store of 7:");
-    show_appended(frames::append(State::new(), &mut store[0..7], SectionId::Data, &item));
+    show_added(thriftbell::add(State::new(), &mut store[0..7], &PASSIVE, b"A"));
 }
 
 fn main() {
@@ -203,6 +223,7 @@ fn main() {
     fault();
     short();
     whole_case();
+    hello();
     empty_order();
     full_store();
 }
