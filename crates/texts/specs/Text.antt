@@ -30,6 +30,15 @@ sliceOf text at = cond (isWithin text at) (take (at .len) (drop (at .start) text
 abbrev pub isExpr : List ℕ → Bool
 isExpr b = eqb (answer b) 0
 
+-- a name's bytes, or an expression's; and what is drawn where they are not
+abbrev pub isKind : Bool → List ℕ → Bool
+isKind true b = isName b
+isKind false b = isExpr b
+
+abbrev pub notKind : Bool → ℕ
+notKind true = 4
+notKind false = 5
+
 -- document 01, Answers by number: a span ends past the text, 3; a name is not UTF-8, 4; an expression is not as above, 5. 9 stands for none of them
 unfoldable pub pastOf : List ℕ → Span → ℕ
 pastOf text at = cond (isWithin text at) 9 3

@@ -9,12 +9,12 @@ pub use reader::append_span;
 pub use reader::find_data;
 pub use reader::find_expr;
 ghost use mathlib.Core.Path.{_≡_};
+ghost use mathlib.Core.Bool.{cond};
 ghost use lib.ListN.{length};
-ghost use Rattle.format.specs.Count.{Adds};
+ghost use Rattle.format.specs.Count.{Adds, lowered};
 ghost use Rattle.leb128.specs.Formats.{u32};
 ghost use Rattle.format.specs.Sized.{sized};
-ghost use Rattle.names.specs.Name.{isName};
-ghost use Rattle.texts.specs.Text.{isWithin, sliceOf, isExpr, pastOf, refusalOf, named, constant, plain};
+ghost use Rattle.texts.specs.Text.{isWithin, sliceOf, isKind, notKind, pastOf, refusalOf, named, constant, plain};
 
 // Two words of a record: where a text starts, and its length.
 pub struct Span {
@@ -65,52 +65,54 @@ pub fn append_data(text: &[u8], at: Span, out: &mut [u8], s: Done) -> Done
     append_slice(text, at, out, t)
 }
 
-fn is_name(text: &[u8], at: Span) -> bool
-    ensures { λ r. ⌜ r ≡ isName (sliceOf (now (text .entry)) at) ⌝ }
+// Whether a span holds a name, or an expression. Where it ends past the text it holds no bytes, which are a name and no expression.
+fn is_kind(name: bool, text: &[u8], at: Span) -> bool
+    ensures { λ r. ⌜ r ≡ isKind name (sliceOf (now (text .entry)) at) ⌝ }
 {
     if is_within(text, at) {
         let from = at.start as usize;
         let end = from + at.len as usize;
-        return names::is_name(&text[from..end]);
-    }
-    true
-}
-
-fn is_expr(text: &[u8], at: Span) -> bool
-    ensures { λ r. ⌜ r ≡ isExpr (sliceOf (now (text .entry)) at) ⌝ }
-{
-    if is_within(text, at) {
-        let from = at.start as usize;
-        let end = from + at.len as usize;
+        if name {
+            return names::is_name(&text[from..end]);
+        }
         return exprs::check_expr(&text[from..end]) == 0;
     }
-    false
+    name
 }
 
-// A name: its length, and its bytes. It is checked only where that could lower the refusal.
+// 4 for a name, 5 for an expression.
+fn refusal(name: bool) -> u32
+    ensures { λ r. ⌜ r ≡ notKind name ⌝ }
+{
+    if name { 4 } else { 5 }
+}
+
+// A text is checked only where that could lower the refusal.
+fn check(name: bool, text: &[u8], at: Span, t: Done) -> Done
+    ensures { λ r. ⌜ r ≡ cond (isKind name (sliceOf (now (text .entry)) at)) t (lowered t (notKind name)) ⌝ }
+{
+    let k = refusal(name);
+    if t.low <= k {
+        return t;
+    }
+    if is_kind(name, text, at) {
+        return t;
+    }
+    lower(t, k)
+}
+
+// A name: its length, and its bytes.
 pub fn append_name(text: &[u8], at: Span, out: &mut [u8], s: Done) -> Done
     ensures { λ r. ⌜ Adds (sized u32 .print (sliceOf (now (text .entry)) at)) (refusalOf (now (text .entry)) named at) (now (out .entry)) s (now (out .exit)) r ⌝ }
 {
     let t = append_data(text, at, out, s);
-    if t.low <= 4 {
-        return t;
-    }
-    if is_name(text, at) {
-        return t;
-    }
-    lower(t, 4)
+    check(true, text, at, t)
 }
 
-// An expression: its bytes, which end in 0B. It is checked only where that could lower the refusal.
+// An expression: its bytes, which end in 0B.
 pub fn append_expr(text: &[u8], at: Span, out: &mut [u8], s: Done) -> Done
     ensures { λ r. ⌜ Adds (sliceOf (now (text .entry)) at) (refusalOf (now (text .entry)) constant at) (now (out .entry)) s (now (out .exit)) r ⌝ }
 {
     let t = append_slice(text, at, out, s);
-    if t.low <= 5 {
-        return t;
-    }
-    if is_expr(text, at) {
-        return t;
-    }
-    lower(t, 5)
+    check(false, text, at, t)
 }
