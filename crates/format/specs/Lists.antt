@@ -26,6 +26,10 @@ abbrev pub All : {A : Type 0} → (A → Type 0) → List A → Type 0
 All P [] = Unit {0}
 All P (a ∷ xs) = P a × All P xs
 
+pub all-more : {A : Type 0} (P : A → Type 0) (xs : List A) (a : A) → All P xs → P a → All P (xs ++ (a ∷ []))
+all-more P [] a h k = (k, tt)
+all-more P (x ∷ xs) a h k = (h .0, all-more P xs a (h .1) k)
+
 module _ {A : Type 0} (F : Format A) where
   pub times-back : (xs : List A) (r : List ℕ) → All (F .Ok) xs → times (F .parse) (length xs) (prints (F .print) xs ++ r) ≡ got xs r
   times-back [] r h = refl

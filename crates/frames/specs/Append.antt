@@ -10,7 +10,7 @@ use lib.Dec.{ltb, eqb}
 use lib.ListN.{length, take, drop, length-append}
 use lib.Seq.{take-at, length-take-le}
 use borrow.Author.Tests.{lt-ltb, le-ltb, ltb-false, le-leb}
-use Rattle.format.specs.Lists.{All, prints, prints-more}
+use Rattle.format.specs.Lists.{All, all-more, prints, prints-more}
 use Rattle.format.specs.Runs.{run, run-only, run-back}
 use Rattle.format.specs.Answers.{answer, NoneHolds, given-exactly, accepted-exactly, neither, settled, settled-accepts, settled-refuses, settled-exactly, one-stands}
 use Rattle.format.specs.Write.{todo}
@@ -141,10 +141,6 @@ module _ (used : ℕ) (xs : List ℕ) (s : SectionId) (item : List ℕ) where
 pub frame-bytes : (f : Frame) → length (f .item) < 2 ^ 32 → frame .print f ≡ headBytes (f .id) (length (f .item)) ++ f .item
 frame-bytes f h = let e : length (f .item) / 256 / 256 / 256 % 256 ≡ length (f .item) / 256 / 256 / 256 = omega arith in rw e
 
-all-more : (fs : List Frame) (f : Frame) → All (frame .Ok) fs → frame .Ok f → All (frame .Ok) (fs ++ (f ∷ []))
-all-more [] f h ok = (ok, tt)
-all-more (g ∷ fs) f h ok = (h .0, all-more fs f (h .1) ok)
-
 pub frames-appended : (used : ℕ) (xs : List ℕ) (f : Frame) (fs : List Frame) → framesIn used xs ≡ some fs → frame .Ok f → used + length (f .item) + 5 ≤ length xs
     → framesIn (used + length (f .item) + 5) (todo used (frame .print f) xs) ≡ some (fs ++ (f ∷ []))
 frames-appended used xs f fs e ok h =
@@ -155,7 +151,7 @@ frames-appended used xs f fs e ok h =
     ap (take (used + length (f .item) + 5)) (sym (append-assoc (take used xs) b (drop (used + length b) xs)))
     ∙ take-at (take used xs ++ b) (drop (used + length b) xs) (used + length (f .item) + 5) n in
     let p : take used xs ++ b ≡ prints (frame .print) (fs ++ (f ∷ [])) = ap (λ (l : List ℕ). l ++ b) (i .1) ∙ sym (prints-more (frame .print) fs f) in
-    ap (run frame) (at ∙ p) ∙ run-back frame frame-some (fs ++ (f ∷ [])) (all-more fs f (i .0) ok)
+    ap (run frame) (at ∙ p) ∙ run-back frame frame-some (fs ++ (f ∷ [])) (all-more (frame .Ok) fs f (i .0) ok)
 
 abbrev pub framed : SectionId → List ℕ → Frame
 framed s item = record { id = idOf s; item = item }
