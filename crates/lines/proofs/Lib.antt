@@ -2,3 +2,4 @@
 pub mod Decoding
 pub mod Printing
 pub mod Reading
+pub mod Framing

@@ -33,7 +33,7 @@ word-found s at h bytes =
 
 -- ---- what reading words answers
 
-words-taken : (n : ℕ) (s ws r : List ℕ) → wordsIn n s ≡ got ws r → (length ws ≡ n) × (4 * n ≤ length s)
+pub words-taken : (n : ℕ) (s ws r : List ℕ) → wordsIn n s ≡ got ws r → (length ws ≡ n) × (4 * n ≤ length s)
 words-taken n s ws r e =
     let (k, _, p) = times-only word32 n s ws r e in
     (k, omega (arith, ap length p, length-append (prints (word32 .print) ws) r, words-long ws))

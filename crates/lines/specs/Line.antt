@@ -10,7 +10,7 @@ use lib.Dec.{eqb, leb}
 use lib.ListN.{length, take, getD, length-append}
 use lib.Seq.{take-suc, take-all, take-at}
 use borrow.Author.Tests.{eqb-true, eq-eqb, leb-true, le-leb}
-use Rattle.format.specs.Lists.{All}
+use Rattle.format.specs.Lists.{All, all-more}
 use Rattle.format.specs.Runs.{run-only, run-back}
 use Rattle.frames.specs.Frames.{byte}
 use Rattle.lines.specs.Hex.{charOf, hexByte, hex-some, lineBytes, hexOf}
@@ -43,10 +43,6 @@ pub record LineFor (f : Frame) (line : List ℕ) : Type 0 where
   pub digits : line ≡ hexOf (withCheck (frameBytes f))
   pub few : length line ≤ digitsMost
 
-all-more : (P : ℕ → Type 0) (b : List ℕ) (c : ℕ) → All P b → P c → All P (b ++ (c ∷ []))
-all-more P [] c h k = (k, tt)
-all-more P (x ∷ b) c h k = (h .0, all-more P b c (h .1) k)
-
 all-split : (P : ℕ → Type 0) (b : List ℕ) (c : ℕ) → All P (b ++ (c ∷ [])) → All P b × P c
 all-split P [] c h = (tt, h .0)
 all-split P (x ∷ b) c h = let (k, l) = all-split P b c (h .1) in ((h .0, k), l)
@@ -63,7 +59,7 @@ line-back f line l =
     let z : sumOf (withCheck b) ≡ 0 = check-exactly b (checkOf b) c .1 refl in
     rw (le-leb (length line) digitsMost (l .few), r, eq-eqb (sumOf (withCheck b)) 0 z, front-of b (checkOf b)) (frame-back f (l .ok))
 
-split-last : (b : List ℕ) → 0 < length b → b ≡ take (length b - 1) b ++ (getD b (length b - 1) 0 ∷ [])
+pub split-last : (b : List ℕ) → 0 < length b → b ≡ take (length b - 1) b ++ (getD b (length b - 1) 0 ∷ [])
 split-last b h =
     let n = length b - 1 in
     let e : suc n ≡ length b = omega arith in

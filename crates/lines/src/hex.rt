@@ -1,7 +1,9 @@
 // Upper-case hexadecimal: two characters a byte.
 use format::Written;
 ghost use mathlib.Core.Path.{_≡_};
-ghost use Prim.Native.Nat.{_<_};
+ghost use mathlib.Core.List.{_∷_};
+ghost use Prim.Native.Nat.{_+_, _*_, _<_, _≤_};
+ghost use lib.ListN.{length};
 ghost use Rattle.format.specs.Write.{Writes};
 ghost use Rattle.lines.specs.Hex.{charOf, digitOf, orSixteen, hexOf};
 ghost use Rattle.lines.specs.Decode.{Decodes};
@@ -79,4 +81,14 @@ pub fn put_hex(bytes: &[u8], out: &mut [u8]) -> Written
         i += 1;
     }
     Written::Length(2 * bytes.len())
+}
+
+// The digits of a number and, behind them, of some bytes.
+pub fn put_answer(number: u8, bytes: &[u8], out: &mut [u8]) -> usize
+    requires { ⌜ 2 + 2 * length (now bytes) ≤ length (now out) ⌝ }
+    ensures { λ r. ⌜ Writes (hexOf (number ∷ now (bytes .entry))) (now (out .entry)) (now (out .exit)) (Written.Length r) ⌝ }
+{
+    put_hex(&[number], out);
+    put_hex(bytes, &mut out[2..]);
+    2 + 2 * bytes.len()
 }
