@@ -1,0 +1,113 @@
+-- What the memory shows after a part of a line, and after a line. Assumes nothing.
+use mathlib.Core.Path.{_≡_, sym, ap, _∙_}
+use mathlib.Core.Logic.{⊎-elim}
+use mathlib.Core.List.{List, [], _∷_, _++_, append-nil, append-assoc}
+use Prim.Native.Nat.{ℕ, _+_, _-_, _≤_, _<_, min}
+use native.Mathlib.Numerals.{add-one}
+use native.Mathlib.Omega.{arith}
+use lib.ListN.{length, take, drop, set, length-append, length-take, length-drop}
+use lib.Seq.{take-all, take-at, take-nil, take-append-add, take-suc-set, length-take-le}
+use borrow.Rule.Slice.PartMut.{putMid, midOf}
+use Rattle.format.specs.Write.{Writes, over, fits-or, todo, todo-end, todo-part}
+use Rattle.format.specs.declared.Written.{Written}
+use Rattle.lines.specs.Line.{lineOf}
+use Rattle.lines.specs.Done.{doing}
+use Rattle.lines.specs.Answer.{Outcome, answerLine, answered, answers-line}
+use Rattle.hexlines.specs.Input.{Kept, answerOf, ended, more, keptMost, front-tells, front-more}
+use Rattle.hexlines.specs.Run.{Shows, Gathered, Roomy, answerTo, Replied}
+use Rattle.hexlines.specs.declared.reply.Run.{Run}
+
+-- ---- a part of a line
+
+-- as many of a part's characters as there is room for
+part-front : (line part : List ℕ) (n m : ℕ) → n ≤ length line → m ≡ min (length part) (length line - n) → take n line ++ take m part ≡ take (length line) (take n line ++ part)
+part-front line part n m h e =
+    let k : length line ≡ length (take n line) + (length line - n) = omega (arith, length-take-le n line h) in
+    let f : take m part ≡ take (length line - n) part =
+    ⊎-elim (λ (g : length part ≤ length line - n). take-all m part (omega arith) ∙ sym (take-all (length line - n) part g))
+    (λ (g : length line - n < length part). let j : m ≡ length line - n = omega arith in rw j)
+    (fits-or (length part) (length line - n)) in
+    ap (λ (l : List ℕ). take n line ++ l) f ∙ sym (ap (λ (j : ℕ). take j (take n line ++ part)) k ∙ take-append-add (take n line) part (length line - n))
+
+pub gathers : (line part : List ℕ) (n m : ℕ) {r : Written} {zs : List ℕ} → n ≤ length line → m ≡ min (length part) (length line - n)
+    → Writes (take (m - 0) (drop 0 part)) (midOf n (length line - n) line) zs r
+    → take (n + m) (putMid n (length line - n) line zs) ≡ take (length line) (take n line ++ part)
+gathers line part n m {r} {zs} h e w =
+    let z : m - 0 ≡ m = omega arith in
+    let v : Writes (take m part) (midOf n (length line - n) line) zs r = rw z at w in
+    let l : length (take m part) ≡ m = length-take-le m part (omega arith) in
+    let whole : putMid n (length line - n) line zs ≡ (take n line ++ take m part) ++ drop (n + length (take m part)) line =
+    sym (todo-end (n + length (take m part)) (putMid n (length line - n) line zs))
+    ∙ todo-part n (take m part) [] line v (omega arith)
+    ∙ ap (λ (p : List ℕ). todo n p line) (append-nil (take m part))
+    ∙ sym (append-assoc (take n line) (take m part) (drop (n + length (take m part)) line)) in
+    ap (take (n + m)) whole
+    ∙ take-at (take n line ++ take m part) (drop (n + length (take m part)) line) (n + m) (omega (arith, length-append (take n line) (take m part), length-take-le n line h))
+    ∙ part-front line part n m h e
+
+pub shows-part : (k : Kept) (r s : Run) (part line line' store buffer out : List ℕ) → length line ≡ keptMost → Shows k r line store buffer out → Gathered r part line line' s
+    → Shows (more k part) s line' store buffer out
+shows-part k r s part line line' store buffer out l h g =
+    record {
+      state = g .state ∙ h .state;
+      stored = h .stored;
+      built = h .built;
+      front = g .front ∙ ap (λ (n : ℕ). take n (take (r .n) line ++ part)) l ∙ ap (λ (f : List ℕ). take keptMost (f ++ part)) (h .front) ∙ front-more keptMost (k .line) part;
+      handed = h .handed;
+      waits = ap (λ (n : ℕ). h .handed ++ take n out) (g .waiting) ∙ h .waits;
+    }
+
+-- ---- a line
+
+waits-more : (at : ℕ) (a xs : List ℕ) → at + length a < length xs → take (at + length a + 1) (set (take at xs ++ over a (drop at xs)) (at + length a) 0x0A) ≡ take at xs ++ (a ++ (0x0A ∷ []))
+waits-more at a xs h =
+    let n = at + length a in
+    let t : length (take at xs) ≡ at = length-take-le at xs (omega arith) in
+    let all = take at xs ++ over a (drop at xs) in
+    let long : n < length all =
+    omega (arith, length-append (take at xs) (over a (drop at xs)), length-append a (drop (length a) (drop at xs)), length-drop (length a) (drop at xs), length-drop at xs) in
+    ap (λ (j : ℕ). take j (set all n 0x0A)) (add-one n)
+    ∙ take-suc-set all n 0x0A long
+    ∙ ap (λ (l : List ℕ). l ++ (0x0A ∷ []))
+    (ap (take n) (sym (append-assoc (take at xs) a (drop (length a) (drop at xs))))
+    ∙ take-at (take at xs ++ a) (drop (length a) (drop at xs)) n (omega (arith, length-append (take at xs) a)))
+    ∙ append-assoc (take at xs) a (0x0A ∷ [])
+
+module _ (k : Kept) (r m s : Run) (line store buffer out store' buffer' out' : List ℕ) (h : Shows k r line store buffer out) (g : Roomy r out m)
+    (l : length buffer ≤ 32768) (w : Replied m (answerTo m (take (r .n - 0) (drop 0 line)) store buffer out) out s store' buffer' out') where
+  did : doing (m .used) store buffer (lineOf (take (r .n - 0) (drop 0 line))) ≡ answerOf k
+  did =
+      let z : r .n - 0 ≡ r .n = omega arith in
+      let f : lineOf (take (r .n - 0) (drop 0 line)) ≡ lineOf (k .line) = rw z (ap lineOf (h .front) ∙ front-tells (k .line)) in
+      λ i. doing ((g .state ∙ h .state) i) (h .stored i) (h .built i) (f i)
+
+  said : answerTo m (take (r .n - 0) (drop 0 line)) store buffer out ≡ answered (drop (m .at) out) (answerOf k)
+  said =
+      sym (answers-line (m .used) store buffer (drop (m .at) out) (take (r .n - 0) (drop 0 line)) (omega (arith, g .room, length-drop (m .at) out)))
+      ∙ ap (answered (drop (m .at) out)) did
+
+  pub shows-end : Shows (ended k) s line store' buffer' out'
+  shows-end =
+      let a = answerLine (answerOf k) in
+      let n : answerTo m (take (r .n - 0) (drop 0 line)) store buffer out .value ≡ length a = ap (λ (o : Outcome). o .value) said in
+      let at : s .at ≡ m .at + length a + 1 = ap (λ (r : Run). r .at) (w .run) ∙ ap (λ (j : ℕ). m .at + j + 1) n in
+      let ys : out' ≡ set (take (m .at) out ++ over a (drop (m .at) out)) (m .at + length a) 0x0A =
+      w .answers ∙ (λ i. set (take (m .at) out ++ said i .out) (m .at + said i .value) 0x0A) in
+      record {
+        state = ap (λ (r : Run). r .used) (w .run) ∙ ap (λ (o : Outcome). o .used) said;
+        stored = w .store ∙ ap (λ (o : Outcome). o .store) said;
+        built = w .buffer ∙ ap (λ (o : Outcome). o .buffer) said;
+        front = ap (λ (r : Run). take (r .n) line) (w .run) ∙ sym (take-nil keptMost);
+        handed = h .handed ++ g .handed;
+        waits = (λ i. (h .handed ++ g .handed) ++ take (at i) (ys i))
+            ∙ ap (λ (l : List ℕ). (h .handed ++ g .handed) ++ l) (waits-more (m .at) a out (omega (arith, w .fits, n)))
+            ∙ sym (append-assoc (h .handed ++ g .handed) (take (m .at) out) (a ++ (0x0A ∷ [])))
+            ∙ ap (λ (l : List ℕ). l ++ (a ++ (0x0A ∷ [])))
+            (append-assoc (h .handed) (g .handed) (take (m .at) out) ∙ ap (λ (l : List ℕ). h .handed ++ l) (g .waits) ∙ h .waits);
+      }
+
+-- ---- the end of the input
+
+-- the line is empty exactly where nothing is gathered
+pub as-long : (k : Kept) (r : Run) (line store buffer out : List ℕ) → r .n ≤ length line → Shows k r line store buffer out → r .n ≡ min keptMost (length (k .line))
+as-long k r line store buffer out l h = omega (arith, ap length (h .front), length-take-le (r .n) line l, length-take keptMost (k .line))

@@ -1,0 +1,66 @@
+// A line's answer and its line feed, behind the answers that wait to be written.
+use libc::STDOUT_FILENO;
+use lines::Reply;
+use lines::answer;
+use thriftbell::State;
+ghost use Prim.Native.Nat.{_+_, _*_, _≤_};
+ghost use lib.ListN.{length};
+ghost use Rattle.hexlines.specs.Run.{longest, Ready, Roomy, answerTo, Replied, Ends};
+
+// The room used; how many characters of a line are gathered; how many bytes wait to be written; and whether all went well.
+pub struct Run {
+    pub used: usize,
+    pub n: usize,
+    pub at: usize,
+    pub ok: bool,
+}
+
+// The longest answer: two digits, those of a module that fills its buffer, and the line feed.
+const LONGEST: usize = 65539;
+
+// What waits is written where the longest answer might not fit behind it.
+fn make_room(r: Run, out: &[u8]) -> Run
+    requires { ⌜ (r .at ≤ length (now out)) × (longest ≤ length (now out)) ⌝ }
+    ensures { λ s. ⌜ Roomy r (now (out .entry)) s ⌝ }
+{
+    let at = r.at;
+    if LONGEST <= out.len() - at {
+        return r;
+    }
+    let written = io::write_all(STDOUT_FILENO, &out[0..at]);
+    Run {
+        used: r.used,
+        n: r.n,
+        at: 0,
+        ok: written,
+    }
+}
+
+fn reply(line: &[u8], r: Run, store: &mut [u8], buffer: &mut [u8], out: &mut [u8]) -> Run
+    requires { ⌜ r .at + (3 + 2 * length (now buffer)) ≤ length (now out) ⌝ }
+    ensures { λ s. ⌜ Replied r (answerTo r (now (line .entry)) (now (store .entry)) (now (buffer .entry)) (now (out .entry))) (now (out .entry)) s (now (store .exit)) (now (buffer .exit)) (now (out .exit)) ⌝ }
+{
+    let at = r.at;
+    let used = r.used;
+    let Reply::Line(s, n) = answer(line, State { used: used }, store, buffer, &mut out[at..]) else {
+        return r;
+    };
+    let end = at + n;
+    out[end] = b'\n';
+    Run {
+        used: s.used,
+        n: 0,
+        at: end + 1,
+        ok: r.ok,
+    }
+}
+
+// The line that is gathered is at its end.
+pub fn end_line(r: Run, line: &[u8], store: &mut [u8], buffer: &mut [u8], out: &mut [u8]) -> Run
+    requires { ⌜ Ready r (now line) (now buffer) (now out) ⌝ }
+    ensures { λ s. ⌜ Ends r (now (line .entry)) (now (store .entry)) (now (buffer .entry)) (now (out .entry)) s (now (store .exit)) (now (buffer .exit)) (now (out .exit)) ⌝ }
+{
+    let n = r.n;
+    let m = make_room(r, out);
+    reply(&line[0..n], m, store, buffer, out)
+}
