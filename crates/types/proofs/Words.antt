@@ -1,0 +1,152 @@
+-- The words of types at a place: by the first of them, what they are. Assumes nothing.
+use mathlib.Core.Path.{_≡_, refl, sym, ap, _∙_}
+use mathlib.Core.Option.{Option, none, some}
+use mathlib.Core.Bool.{Bool, true, false}
+use mathlib.Core.Logic.{inl, inr}
+use mathlib.Core.List.{List, [], _∷_}
+use Prim.Native.Nat.{ℕ, zero, suc, _+_, _<_, _≤_, _^_}
+use native.Mathlib.Omega.{arith}
+use lib.Dec.{eqb, ltb}
+use lib.ListN.{length, getD, drop, length-append, length-drop}
+use borrow.Author.Tests.{lt-ltb, le-ltb, ne-eqb}
+use Rattle.format.specs.Parsed.{Parsed, fail, got, map, map-map, bind, fromOption}
+use Rattle.format.specs.Format.{Format, refuses}
+use Rattle.format.specs.Basic.{find, find-only, flag}
+use Rattle.format.specs.Read.{drop-more}
+use Rattle.types.specs.Words.{refOf, refWords, ref-words-at}
+use Rattle.types.specs.Vals.{unused, coded, Num, nums, numKind, numByte, num-kind-small, num-kind-full, numWords, numVal, valFrom, valWords, valBytes, i32, i64, f32, f64, v128, i8, i16, Packed, packedKind, packedStorage, storageFrom, storageWords, field}
+use Rattle.types.specs.Answers.{codeOr}
+use Rattle.types.specs.declared.RefType.{RefType}
+use Rattle.types.specs.declared.ValType.the-variants.{Ref}
+use Rattle.types.specs.declared.StorageType.{StorageType}
+use Rattle.types.specs.declared.StorageType.the-variants.{Val}
+use Rattle.types.specs.declared.FieldType.{FieldType}
+
+-- ---- two words
+
+pub drop-two : (s : List ℕ) (p : ℕ) → p + 2 ≤ length s → drop p s ≡ getD s p 0 ∷ getD s (p + 1) 0 ∷ drop (p + 2) s
+drop-two s p h =
+    let e2 : p + 1 + 1 ≡ p + 2 = omega arith in
+    rw (drop-more s p (omega arith), drop-more s (p + 1) (omega arith), e2)
+
+-- there are fewer than every value takes
+pub too-few : {A : Type 0} (F : Format A) (n : ℕ) → 0 < n → ((a : A) → length (F .print a) ≡ n) → (w : List ℕ) (at : ℕ) → length w < at + n → F .parse (drop at w) ≡ fail
+too-few F n k long w at h =
+    refuses F (drop at w) .1 (λ x r ok e. omega (arith, ap length e ∙ length-append (F .print x) r, long x, length-drop at w))
+
+module _ (w : List ℕ) (at : ℕ) (h : at + 2 ≤ length w) where
+  pub ref-two : getD w at 0 < 2 ^ 32 → getD w (at + 1) 0 < 2 ^ 32 → (o : Option RefType) → refOf (getD w at 0, getD w (at + 1) 0) ≡ o
+      → refWords .parse (drop at w) ≡ fromOption o (drop (at + 2) w)
+  ref-two p q o e =
+      ap (refWords .parse) (drop-two w at h) ∙ ref-words-at (getD w at 0) (getD w (at + 1) 0) (drop (at + 2) w) p q
+      ∙ ap (λ (o : Option RefType). fromOption o (drop (at + 2) w)) e
+
+  pub unused-two : getD w at 0 ≡ 0 → getD w (at + 1) 0 ≡ 0 → unused .parse (drop at w) ≡ got tt (drop (at + 2) w)
+  unused-two p q = rw (drop-two w at h, p, q)
+
+  pub used-first : (getD w at 0 ≡ 0 → ⊥) → unused .parse (drop at w) ≡ fail
+  used-first n = rw (drop-two w at h, ne-eqb (getD w at 0) 0 n)
+
+  pub used-second : getD w at 0 ≡ 0 → (getD w (at + 1) 0 ≡ 0 → ⊥) → unused .parse (drop at w) ≡ fail
+  used-second p n = rw (drop-two w at h, p, ne-eqb (getD w (at + 1) 0) 0 n)
+
+-- ---- a code and two unused words
+
+module _ {A : Type 0} (code : A → ℕ) (l : List A) (small : (a : A) → code a < 256) (full : (a : A) → find code l (code a) ≡ some a) (k : ℕ) (s : List ℕ) where
+  pub coded-some : (a : A) → find code l k ≡ some a → coded code l small full .parse (k ∷ s) ≡ map (λ u. a) (unused .parse s)
+  coded-some a e = let i : k ≡ code a = find-only code l k a e in rw (lt-ltb k 256 (omega (arith, small a)), e) (go (unused .parse s))
+    where
+      go : (m : Parsed (Unit {0})) → map (λ (p : A × Unit {0}). p .0) (bind m (λ b t. got (a, b) t)) ≡ map (λ u. a) m
+      go fail = refl
+      go (got u t) = refl
+
+  pub coded-none : find code l k ≡ none → coded code l small full .parse (k ∷ s) ≡ fail
+  coded-none e = go (ltb k 256) refl
+    where
+      go : (c : Bool) → ltb k 256 ≡ c → coded code l small full .parse (k ∷ s) ≡ fail
+      go true h = rw (h, e)
+      go false h = rw h
+
+-- ---- a value type
+
+module _ (w : List ℕ) (at : ℕ) (h : at < length w) where
+  pub val-ref : getD w at 0 ≡ 5 → valWords .parse (drop at w) ≡ map Ref (refWords .parse (drop (at + 1) w))
+  val-ref e = rw (drop-more w at h, e) (map-map valFrom inl (refWords .parse (drop (at + 1) w)))
+
+  val-coded : (getD w at 0 ≡ 5 → ⊥) → valWords .parse (drop at w) ≡ map numVal (numWords .parse (getD w at 0 ∷ drop (at + 1) w))
+  val-coded n = rw (drop-more w at h, ne-eqb (getD w at 0) 5 n) (map-map valFrom inr (numWords .parse (getD w at 0 ∷ drop (at + 1) w)))
+
+  pub val-num : (getD w at 0 ≡ 5 → ⊥) → (a : Num) → find numKind nums (getD w at 0) ≡ some a → valWords .parse (drop at w) ≡ map (λ u. numVal a) (unused .parse (drop (at + 1) w))
+  val-num n a e =
+      val-coded n ∙ ap (map numVal) (coded-some numKind nums num-kind-small num-kind-full (getD w at 0) (drop (at + 1) w) a e)
+      ∙ map-map numVal (λ u. a) (unused .parse (drop (at + 1) w))
+
+  pub val-none : (getD w at 0 ≡ 5 → ⊥) → find numKind nums (getD w at 0) ≡ none → valWords .parse (drop at w) ≡ fail
+  val-none n e = val-coded n ∙ ap (map numVal) (coded-none numKind nums num-kind-small num-kind-full (getD w at 0) (drop (at + 1) w) e)
+
+  -- ---- a storage type
+
+  pub storage-packed : (a : Packed) → getD w at 0 ≡ packedKind a → storageWords .parse (drop at w) ≡ map (λ u. packedStorage a) (unused .parse (drop (at + 1) w))
+  storage-packed a e = ap (storageWords .parse) (drop-more w at h) ∙ go a (getD w at 0) e
+    where
+      fold : (a : Packed) (m : Parsed (Unit {0})) → map storageFrom (map inl (map (λ (p : Packed × Unit {0}). p .0) (bind m (λ b t. got (a, b) t)))) ≡ map (λ u. packedStorage a) m
+      fold a fail = refl
+      fold a (got u t) = refl
+
+      go : (a : Packed) (k : ℕ) → k ≡ packedKind a → storageWords .parse (k ∷ drop (at + 1) w) ≡ map (λ u. packedStorage a) (unused .parse (drop (at + 1) w))
+      go i8 k e = rw e (fold i8 (unused .parse (drop (at + 1) w)))
+      go i16 k e = rw e (fold i16 (unused .parse (drop (at + 1) w)))
+
+  pub storage-val : (getD w at 0 ≡ 6 → ⊥) → (getD w at 0 ≡ 7 → ⊥) → storageWords .parse (drop at w) ≡ map Val (valWords .parse (drop at w))
+  storage-val n m =
+      ap (storageWords .parse) (drop-more w at h) ∙ rw (ne-eqb (getD w at 0) 6 n, ne-eqb (getD w at 0) 7 m) (map-map storageFrom inr (valWords .parse (getD w at 0 ∷ drop (at + 1) w)))
+      ∙ ap (λ (l : List ℕ). map Val (valWords .parse l)) (sym (drop-more w at h))
+
+-- ---- the byte of a number type
+
+module _ {A : Type 0} (code : A → ℕ) (z : ℕ) where
+  pub code-some : (o : Option A) → (codeOr code z o ≡ z → ⊥) → (a : A) × (o ≡ some a)
+  code-some none n = absurd (n refl)
+  code-some (some a) n = (a, refl)
+
+  pub code-none : ((a : A) → code a ≡ z → ⊥) → (o : Option A) → codeOr code z o ≡ z → o ≡ none
+  code-none h none e = refl
+  code-none h (some a) e = absurd (h a e)
+
+pub num-byte-not : (a : Num) → numByte a ≡ 0 → ⊥
+num-byte-not = elim [ i32 ↦ λ e. omega arith | i64 ↦ λ e. omega arith | f32 ↦ λ e. omega arith | f64 ↦ λ e. omega arith | v128 ↦ λ e. omega arith ]
+
+num-print : (a : Num) → numByte a ∷ [] ≡ valBytes .print (numVal a)
+num-print = elim [ i32 ↦ refl | i64 ↦ refl | f32 ↦ refl | f64 ↦ refl | v128 ↦ refl ]
+
+pub num-is : (b : ℕ) (o : Option Num) (a : Num) → b ≡ codeOr numByte 0 o → o ≡ some a → b ∷ [] ≡ valBytes .print (numVal a)
+num-is b o a e f = rw (e, f) (num-print a)
+
+-- ---- mutable, and a field
+
+pub flag-at : (x : ℕ) (s : List ℕ) → x ≤ 1 → flag .parse (x ∷ s) ≡ got (eqb x 1) s
+flag-at zero s h = refl
+flag-at (suc zero) s h = refl
+flag-at (suc (suc x)) s h = absurd (omega arith)
+
+pub flag-print : (x : ℕ) → x ≤ 1 → x ∷ [] ≡ flag .print (eqb x 1)
+flag-print zero h = refl
+flag-print (suc zero) h = refl
+flag-print (suc (suc x)) h = absurd (omega arith)
+
+pub flag-large : (x : ℕ) (s : List ℕ) → 1 < x → flag .parse (x ∷ s) ≡ fail
+flag-large x s h = rw (le-ltb x 2 (omega arith))
+
+abbrev pub fieldOf : StorageType → Bool → FieldType
+fieldOf v m = record { «element_type» = v; mutable = m }
+
+module _ (F : Format StorageType) (s : List ℕ) where
+  pub field-read : (v : StorageType) (t : List ℕ) → F .parse s ≡ got v t → field F .parse s ≡ map (fieldOf v) (flag .parse t)
+  field-read v t e = rw e (go (flag .parse t))
+    where
+      go : (m : Parsed Bool) → map (λ (p : StorageType × Bool). fieldOf (p .0) (p .1)) (bind m (λ b r. got (v, b) r)) ≡ map (fieldOf v) m
+      go fail = refl
+      go (got b r) = refl
+
+  pub field-none : F .parse s ≡ fail → field F .parse s ≡ fail
+  field-none e = rw e

@@ -1,0 +1,176 @@
+// Writing types: their words at a place, and their bytes.
+use crate::HeapType;
+use crate::RefRead;
+use crate::RefType;
+use format::Done;
+use format::Walk;
+use format::append_byte;
+use format::least;
+use format::more;
+use numbers::append_u32;
+ghost use mathlib.Core.Path.{_≡_};
+ghost use mathlib.Core.List.{[], _∷_};
+ghost use lib.IntN.{pos};
+ghost use Rattle.format.specs.Basic.{find, flag};
+ghost use Rattle.format.specs.Count.{Adds};
+ghost use Rattle.format.specs.Walk.{Walks};
+ghost use Rattle.leb128.specs.Leb.{sleb};
+ghost use Rattle.types.specs.Words.{refWords};
+ghost use Rattle.types.specs.Bytes.{heapBytes, refBytes};
+ghost use Rattle.types.specs.Vals.{unused, nums, numKind, numByte, valWords, valBytes, storageWords, storageBytes, fieldWords, fieldBytes};
+ghost use Rattle.types.specs.Answers.{codeOr};
+
+// A concrete index: a signed number of 64 bits, behind what was appended before.
+fn append_index(v: u32, out: &mut [u8], s: Done) -> Done
+    ensures { λ r. ⌜ Adds (sleb (pos v)) 9 (now (out .entry)) s (now (out .exit)) r ⌝ }
+{
+    let n = s.n;
+    let low = s.low;
+    let signed = true;
+    let k = more(n, leb128::size(signed, v as u64));
+    let at = least(n, out.len());
+    leb128::encode(signed, false, v as u64, &mut out[at..]);
+    Done { n: k, low: low }
+}
+
+fn append_heap(t: HeapType, out: &mut [u8], s: Done) -> Done
+    ensures { λ r. ⌜ Adds (heapBytes .print t) 9 (now (out .entry)) s (now (out .exit)) r ⌝ }
+{
+    match t {
+        HeapType::Abstract { shared, ty } => {
+            if shared {
+                let u = append_byte(0x65, out, s);
+                return append_byte(ty.byte(), out, u);
+            }
+            append_byte(ty.byte(), out, s)
+        }
+        HeapType::Concrete(x) => append_index(x, out, s),
+        HeapType::Exact(x) => {
+            let u = append_byte(0x62, out, s);
+            append_u32(x, out, u)
+        }
+    }
+}
+
+// Only an abstract heap type stands alone, and only where it is nullable.
+pub fn append_ref(r: RefType, out: &mut [u8], s: Done) -> Done
+    ensures { λ d. ⌜ Adds (refBytes .print r) 9 (now (out .entry)) s (now (out .exit)) d ⌝ }
+{
+    let heap = r.heap_type;
+    if r.nullable {
+        if heap.is_abstract() {
+            return append_heap(heap, out, s);
+        }
+        let t = append_byte(0x63, out, s);
+        return append_heap(heap, out, t);
+    }
+    let t = append_byte(0x64, out, s);
+    append_heap(heap, out, t)
+}
+
+// Reads a reference's two words and appends its bytes.
+pub fn walk_ref(words: &[u32], at: usize, out: &mut [u8], s: Done) -> Walk
+    ensures { λ r. ⌜ Walks refWords (refBytes .print) (λ x. 9) (now (words .entry)) at (now (out .entry)) s (now (out .exit)) r ⌝ }
+{
+    if words.len() <= at {
+        return Walk::No;
+    }
+    if words.len() - at < 2 {
+        return Walk::No;
+    }
+    let h = words[at];
+    let x = words[at + 1];
+    let RefRead::Ref(r) = RefType::from_words(h, x) else {
+        return Walk::No;
+    };
+    Walk::Got(at + 2, append_ref(r, out, s))
+}
+
+// Two unused words, and the byte of a type that has no more.
+fn walk_unused(words: &[u32], at: usize, b: u8, out: &mut [u8], s: Done) -> Walk
+    ensures { λ r. ⌜ Walks unused (λ x. b ∷ []) (λ x. 9) (now (words .entry)) at (now (out .entry)) s (now (out .exit)) r ⌝ }
+{
+    if words.len() <= at {
+        return Walk::No;
+    }
+    if words.len() - at < 2 {
+        return Walk::No;
+    }
+    if words[at] != 0 {
+        return Walk::No;
+    }
+    if words[at + 1] != 0 {
+        return Walk::No;
+    }
+    Walk::Got(at + 2, append_byte(b, out, s))
+}
+
+// The byte of a number or vector type by its kind; 0 where there is none.
+fn num_byte(k: u32) -> u8
+    ensures { λ r. ⌜ r ≡ codeOr numByte 0 (find numKind nums k) ⌝ }
+{
+    match k {
+        0 => 0x7F,
+        1 => 0x7E,
+        2 => 0x7D,
+        3 => 0x7C,
+        4 => 0x7B,
+        _ => 0,
+    }
+}
+
+pub fn walk_val(words: &[u32], at: usize, out: &mut [u8], s: Done) -> Walk
+    ensures { λ r. ⌜ Walks valWords (valBytes .print) (λ x. 9) (now (words .entry)) at (now (out .entry)) s (now (out .exit)) r ⌝ }
+{
+    if words.len() <= at {
+        return Walk::No;
+    }
+    let k = words[at];
+    if k == 5 {
+        return walk_ref(words, at + 1, out, s);
+    }
+    let b = num_byte(k);
+    if b == 0 {
+        return Walk::No;
+    }
+    walk_unused(words, at + 1, b, out, s)
+}
+
+pub fn walk_storage(words: &[u32], at: usize, out: &mut [u8], s: Done) -> Walk
+    ensures { λ r. ⌜ Walks storageWords (storageBytes .print) (λ x. 9) (now (words .entry)) at (now (out .entry)) s (now (out .exit)) r ⌝ }
+{
+    if words.len() <= at {
+        return Walk::No;
+    }
+    let k = words[at];
+    if k == 6 {
+        return walk_unused(words, at + 1, 0x78, out, s);
+    }
+    if k == 7 {
+        return walk_unused(words, at + 1, 0x77, out, s);
+    }
+    walk_val(words, at, out, s)
+}
+
+// Mutable or not: 0 or 1, as a word and as a byte.
+pub fn walk_mutable(words: &[u32], at: usize, out: &mut [u8], s: Done) -> Walk
+    ensures { λ r. ⌜ Walks flag (flag .print) (λ x. 9) (now (words .entry)) at (now (out .entry)) s (now (out .exit)) r ⌝ }
+{
+    if words.len() <= at {
+        return Walk::No;
+    }
+    let b = words[at];
+    if 1 < b {
+        return Walk::No;
+    }
+    Walk::Got(at + 1, append_byte(b as u8, out, s))
+}
+
+pub fn walk_field(words: &[u32], at: usize, out: &mut [u8], s: Done) -> Walk
+    ensures { λ r. ⌜ Walks fieldWords (fieldBytes .print) (λ x. 9) (now (words .entry)) at (now (out .entry)) s (now (out .exit)) r ⌝ }
+{
+    let Walk::Got(p, t) = walk_storage(words, at, out, s) else {
+        return Walk::No;
+    };
+    walk_mutable(words, p, out, t)
+}
