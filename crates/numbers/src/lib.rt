@@ -12,7 +12,7 @@ ghost use Prim.Native.Nat.{_%_, _≤_, _<_, _^_};
 ghost use Rattle.format.specs.Count.{Adds};
 ghost use Rattle.format.specs.Read.{reading};
 ghost use Rattle.format.specs.Write.{Writes};
-ghost use Rattle.leb128.specs.Leb.{uleb, sleb};
+ghost use Rattle.leb128.specs.Leb.{leb, uleb, sleb};
 ghost use Rattle.leb128.specs.Formats.{uN, sN, u32, u64, s32, s64, index};
 ghost use Rattle.leb128.specs.Parts.{bySign};
 ghost use Rattle.numbers.specs.Answers.{readU32, readU64, readI32, readI64};
@@ -91,16 +91,34 @@ pub fn encoding_size(n: u32) -> usize
     leb128::size(false, n as u64)
 }
 
-// Behind what was appended before, as far as there is room (`format::Done`).
-pub fn append_u32(v: u32, out: &mut [u8], s: Done) -> Done
-    ensures { λ r. ⌜ Adds (uleb v) 9 (now (out .entry)) s (now (out .exit)) r ⌝ }
+// Behind what was appended before, as far as there is room (`format::Done`): a number that is not below 0, with or without a sign's bit.
+fn append_natural(signed: bool, v: u64, out: &mut [u8], s: Done) -> Done
+    ensures { λ r. ⌜ Adds (leb signed (pos v)) 9 (now (out .entry)) s (now (out .exit)) r ⌝ }
 {
     let n = s.n;
     let low = s.low;
-    let k = more(n, encoding_size(v));
+    let k = more(n, leb128::size(signed, v));
     let at = least(n, out.len());
-    encode_u32(v, &mut out[at..]);
+    leb128::encode(signed, false, v, &mut out[at..]);
     Done { n: k, low: low }
+}
+
+pub fn append_u32(v: u32, out: &mut [u8], s: Done) -> Done
+    ensures { λ r. ⌜ Adds (uleb v) 9 (now (out .entry)) s (now (out .exit)) r ⌝ }
+{
+    append_natural(false, v as u64, out, s)
+}
+
+pub fn append_u64(v: u64, out: &mut [u8], s: Done) -> Done
+    ensures { λ r. ⌜ Adds (uleb v) 9 (now (out .entry)) s (now (out .exit)) r ⌝ }
+{
+    append_natural(false, v, out, s)
+}
+
+pub fn append_index(v: u32, out: &mut [u8], s: Done) -> Done
+    ensures { λ r. ⌜ Adds (sleb (pos v)) 9 (now (out .entry)) s (now (out .exit)) r ⌝ }
+{
+    append_natural(true, v as u64, out, s)
 }
 
 // Readers: what stands in `s` from the place `at` on, however far that is. They answer a number in its shortest form and the place behind it, or that none

@@ -5,33 +5,17 @@ use crate::RefType;
 use format::Done;
 use format::Walk;
 use format::append_byte;
-use format::least;
-use format::more;
+use numbers::append_index;
 use numbers::append_u32;
 ghost use mathlib.Core.Path.{_≡_};
 ghost use mathlib.Core.List.{[], _∷_};
-ghost use lib.IntN.{pos};
 ghost use Rattle.format.specs.Basic.{find, flag};
 ghost use Rattle.format.specs.Count.{Adds};
 ghost use Rattle.format.specs.Walk.{Walks};
-ghost use Rattle.leb128.specs.Leb.{sleb};
 ghost use Rattle.types.specs.Words.{refWords};
 ghost use Rattle.types.specs.Bytes.{heapBytes, refBytes};
 ghost use Rattle.types.specs.Vals.{unused, nums, numKind, numByte, valWords, valBytes, storageWords, storageBytes, fieldWords, fieldBytes};
 ghost use Rattle.types.specs.Answers.{codeOr};
-
-// A concrete index: a signed number of 64 bits, behind what was appended before.
-fn append_index(v: u32, out: &mut [u8], s: Done) -> Done
-    ensures { λ r. ⌜ Adds (sleb (pos v)) 9 (now (out .entry)) s (now (out .exit)) r ⌝ }
-{
-    let n = s.n;
-    let low = s.low;
-    let signed = true;
-    let k = more(n, leb128::size(signed, v as u64));
-    let at = least(n, out.len());
-    leb128::encode(signed, false, v as u64, &mut out[at..]);
-    Done { n: k, low: low }
-}
 
 fn append_heap(t: HeapType, out: &mut [u8], s: Done) -> Done
     ensures { λ r. ⌜ Adds (heapBytes .print t) 9 (now (out .entry)) s (now (out .exit)) r ⌝ }
