@@ -12,5 +12,6 @@ pub mod Write
 pub mod Read
 pub mod Count
 pub mod Walk
+pub mod Sequence
 pub mod Loop
 pub mod RoundTrip

@@ -1,0 +1,98 @@
+-- One walk behind another: the whole reads as the first part and then the second do, and writes what they write. Assumes nothing.
+use mathlib.Core.Path.{_≡_, refl, sym, _∙_, ap, subst}
+use mathlib.Core.List.{List, _++_, append-assoc}
+use Prim.Native.Nat.{ℕ, _≤_, min}
+use native.Mathlib.Omega.{arith}
+use lib.ListN.{length, take, drop, length-append, take-append-drop}
+use lib.Seq.{drop-append-seam}
+use Rattle.format.specs.Parsed.{Parsed, fail, got, bind, map}
+use Rattle.format.specs.Format.{Format}
+use Rattle.format.specs.Combine.{pair}
+use Rattle.format.specs.Read.{placeOf}
+use Rattle.format.specs.Count.{Adds, adds-seq, adds-eq}
+use Rattle.format.specs.Walk.{Walked}
+use Rattle.format.specs.declared.Done.{Done}
+use Rattle.format.specs.declared.Walk.{Walk}
+use Rattle.format.specs.declared.Walk.the-variants as walks
+
+-- what a reading leaves is the end of what it was given
+abbrev pub Leaves : {A : Type 0} → (List ℕ → Parsed A) → Type 0
+Leaves {A} P = (s : List ℕ) (a : A) (r : List ℕ) → P s ≡ got a r → (q : List ℕ) × (s ≡ q ++ r)
+
+pub leaves : {A : Type 0} (F : Format A) → Leaves (F .parse)
+leaves F s a r e = (F .print a, F .only s a r e .1)
+
+-- so it stands from its place on
+pub left-at : {A : Type 0} (P : List ℕ → Parsed A) → Leaves P → (w : List ℕ) (at : ℕ) (a : A) (r : List ℕ) → P (drop at w) ≡ got a r → r ≡ drop (placeOf w r) w
+left-at P l w at a r e =
+    let (q, d) = l (drop at w) a r e in
+    let p = take at w ++ q in
+    let we : w ≡ p ++ r = sym (take-append-drop at w) ∙ ap (λ (t : List ℕ). take at w ++ t) d ∙ sym (append-assoc (take at w) q r) in
+    let n : placeOf w r ≡ length p = omega (arith, ap length we, length-append p r) in
+    sym (rw n (ap (drop (length p)) we ∙ drop-append-seam p r))
+
+-- f, g, f′, g′, f″, g″: what is written of a value of the first part, of the second, of the whole, and the lowest refusals that they draw
+module _ {A B C : Type 0} (P : List ℕ → Parsed A) (f : A → List ℕ) (g : A → ℕ) (Q : List ℕ → Parsed B) (f′ : B → List ℕ) (g′ : B → ℕ) (X : List ℕ → Parsed C)
+    (f″ : C → List ℕ) (g″ : C → ℕ) where
+  pub record Joins : Type 0 where
+    pub ends : Leaves P
+    pub join : A → B → C
+    pub reads : (s : List ℕ) → X s ≡ bind (P s) (λ a r. map (join a) (Q r))
+    pub writes : (a : A) (b : B) → f a ++ f′ b ≡ f″ (join a b)
+    pub draws : (a : A) (b : B) → min (g a) (g′ b) ≡ g″ (join a b)
+
+  module _ (J : Joins) (w : List ℕ) (at : ℕ) (old : List ℕ) (s : Done) (cur : List ℕ) (r : Walk) (h : Walked f g w (P (drop at w)) old s cur r) where
+    abbrev whole : Parsed A → Parsed C
+    whole m = bind m (λ a t. map (J .join a) (Q t))
+
+    -- where the first part is missing, so is the whole
+    pub joins-no : (new : List ℕ) → r ≡ walks.No → Walked f″ g″ w (X (drop at w)) old s new walks.No
+    joins-no new e = subst (λ (m : Parsed C). Walked f″ g″ w m old s new walks.No) (sym (J .reads (drop at w))) (go (P (drop at w)) h)
+      where
+        go : (m : Parsed A) → Walked f g w m old s cur r → Walked f″ g″ w (whole m) old s new walks.No
+        go fail k = refl
+        go (got a t) k = let z : _≡_ {A = ℕ} 0 1 = cc (k .1) in absurd (omega arith)
+
+    -- else a walk over the second part, from where the first one ended, is one over the whole
+    pub joins-got : (new : List ℕ) (p : ℕ) (u : Done) (r′ : Walk) → r ≡ walks.Got p u → Walked f′ g′ w (Q (drop p w)) cur u new r′ → Walked f″ g″ w (X (drop at w)) old s new r′
+    joins-got new p u r′ e k = subst (λ (m : Parsed C). Walked f″ g″ w m old s new r′) (sym (J .reads (drop at w))) (go (P (drop at w)) refl h)
+      where
+        second : (a : A) (v : Done) (m : Parsed B) → Adds (f a) (g a) old s cur v → Walked f′ g′ w m cur v new r′ → Walked f″ g″ w (map (J .join a) m) old s new r′
+        second a v fail x y = y
+        second a v (got b t) x y = (y .0, y .1, adds-eq (J .writes a b) (J .draws a b) (adds-seq x (y .2)))
+
+        go : (m : Parsed A) → P (drop at w) ≡ m → Walked f g w m old s cur r → Walked f″ g″ w (whole m) old s new r′
+        go fail q x = let z : _≡_ {A = ℕ} 0 1 = cc in absurd (omega arith)
+        go (got a t) q x =
+            let is : walks.Got (placeOf w t) (x .0) ≡ walks.Got p u = sym (x .1) ∙ e in
+            let pe : p ≡ placeOf w t = cc in
+            let ue : u ≡ x .0 = cc in
+            let t′ : drop p w ≡ t = ap (λ (n : ℕ). drop n w) pe ∙ sym (left-at P (J .ends) w at a t q) in
+            second a (x .0) (Q t) (x .2)
+            (subst (λ (l : List ℕ). Walked f′ g′ w (Q l) cur (x .0) new r′) t′ (subst (λ (v : Done). Walked f′ g′ w (Q (drop p w)) cur v new r′) ue k))
+
+-- a pair, and what is made of it
+pub pair-reads : {A B C : Type 0} (F : Format A) (G : Format B) (h : A × B → C) (s : List ℕ)
+    → map h (pair F G .parse s) ≡ bind (F .parse s) (λ a r. map (λ b. h (a, b)) (G .parse r))
+pair-reads {A} {B} {C} F G h s = go (F .parse s)
+  where
+    in-it : (a : A) (m : Parsed B) → map h (bind m (λ b t. got (a, b) t)) ≡ map (λ b. h (a, b)) m
+    in-it a fail = refl
+    in-it a (got b t) = refl
+
+    go : (m : Parsed A) → map h (bind m (λ a r. bind (G .parse r) (λ b t. got (a, b) t))) ≡ bind m (λ a r. map (λ b. h (a, b)) (G .parse r))
+    go fail = refl
+    go (got a r) = in-it a (G .parse r)
+
+pub pair-plain : {A B : Type 0} (F : Format A) (G : Format B) (s : List ℕ) → pair F G .parse s ≡ bind (F .parse s) (λ a r. map (λ b. (a, b)) (G .parse r))
+pair-plain {A} {B} F G s = same (pair F G .parse s) ∙ pair-reads F G (λ p. p) s
+  where
+    same : (m : Parsed (A × B)) → m ≡ map (λ p. p) m
+    same fail = refl
+    same (got p r) = refl
+
+-- an iso of a pair, with no refusals: what most types are
+module _ {A B C : Type 0} (F : Format A) (f : A → List ℕ) (G : Format B) (f′ : B → List ℕ) (X : Format C) (f″ : C → List ℕ) where
+  pub joins : (h : A × B → C) → ((s : List ℕ) → X .parse s ≡ map h (pair F G .parse s)) → ((a : A) (b : B) → f a ++ f′ b ≡ f″ (h (a, b)))
+      → Joins (F .parse) f (λ a. 9) (G .parse) f′ (λ b. 9) (X .parse) f″ (λ c. 9)
+  joins h e w = record { ends = leaves F; join = λ a b. h (a, b); reads = λ s. e s ∙ pair-reads F G h s; writes = w; draws = λ a b. refl }
