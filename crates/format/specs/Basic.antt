@@ -3,10 +3,10 @@ use mathlib.Core.Path.{_≡_, refl, _∙_, ap}
 use mathlib.Core.Bool.{Bool, true, false, cond}
 use mathlib.Core.Option.{Option, none, some, Option·none-ne-some}
 use mathlib.Core.List.{List, [], _∷_, _++_}
-use Prim.Native.Nat.{ℕ, _<_}
+use Prim.Native.Nat.{ℕ, zero, suc, _<_, _≤_}
 use native.Mathlib.Omega.{arith}
 use lib.Dec.{ltb, eqb, lit<}
-use borrow.Author.Tests.{ltb-true, lt-ltb, eqb-true, eq-eqb, ne-eqb}
+use borrow.Author.Tests.{ltb-true, lt-ltb, le-ltb, eqb-true, eq-eqb, ne-eqb}
 use Rattle.format.specs.Parsed.{Parsed, fail, got, got-value, got-rest, fail-got, bind, bind-inv, cond-inv, fromOption, fromOption-inv}
 use Rattle.format.specs.Format.{Format}
 
@@ -131,3 +131,17 @@ bit-full false = refl
 
 abbrev pub flag : Format Bool
 flag = table 2 bit (false ∷ true ∷ []) bit-small bit-full
+
+-- by the number that stands there
+pub flag-at : (x : ℕ) (s : List ℕ) → x ≤ 1 → flag .parse (x ∷ s) ≡ got (eqb x 1) s
+flag-at zero s h = refl
+flag-at (suc zero) s h = refl
+flag-at (suc (suc x)) s h = absurd (omega arith)
+
+pub flag-print : (x : ℕ) → x ≤ 1 → x ∷ [] ≡ flag .print (eqb x 1)
+flag-print zero h = refl
+flag-print (suc zero) h = refl
+flag-print (suc (suc x)) h = absurd (omega arith)
+
+pub flag-large : (x : ℕ) (s : List ℕ) → 1 < x → flag .parse (x ∷ s) ≡ fail
+flag-large x s h = rw (le-ltb x 2 (omega arith))

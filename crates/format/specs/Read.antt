@@ -20,6 +20,17 @@ drop-more s n h = rw (add-one n) (drop-cons s n 0 h)
 pub drop-end : (s : List ℕ) (n : ℕ) → length s ≤ n → drop n s ≡ []
 drop-end s n h = drop-of-length-le s h
 
+pub drop-two : (s : List ℕ) (p : ℕ) → p + 2 ≤ length s → drop p s ≡ getD s p 0 ∷ getD s (p + 1) 0 ∷ drop (p + 2) s
+drop-two s p h =
+    let e : p + 1 + 1 ≡ p + 2 = omega arith in
+    rw (drop-more s p (omega arith), drop-more s (p + 1) (omega arith), e)
+
+-- fewer than every value takes
+pub too-few : {A : Type 0} (F : Format A) (n : ℕ) → 0 < n → ((a : A) → F .Ok a → n ≤ length (F .print a)) → (w : List ℕ) (at : ℕ) → length w < at + n
+    → F .parse (drop at w) ≡ fail
+too-few F n k long w at h =
+    refuses F (drop at w) .1 (λ x r ok e. omega (arith, ap length e ∙ length-append (F .print x) r, long x ok, length-drop at w))
+
 -- the place of what is left
 abbrev pub placeOf : List ℕ → List ℕ → ℕ
 placeOf s r = length s - length r

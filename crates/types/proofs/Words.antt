@@ -10,9 +10,9 @@ use lib.Dec.{eqb, ltb}
 use lib.ListN.{length, getD, drop, length-append, length-drop}
 use borrow.Author.Tests.{lt-ltb, le-ltb, ne-eqb}
 use Rattle.format.specs.Parsed.{Parsed, fail, got, map, map-map, bind, fromOption}
-use Rattle.format.specs.Format.{Format, refuses}
+use Rattle.format.specs.Format.{Format}
 use Rattle.format.specs.Basic.{find, find-only, flag}
-use Rattle.format.specs.Read.{drop-more}
+use Rattle.format.specs.Read.{drop-more, drop-two}
 use Rattle.types.specs.Words.{refOf, refWords, ref-words-at}
 use Rattle.types.specs.Vals.{unused, coded, Num, nums, numKind, numByte, num-kind-small, num-kind-full, numWords, numVal, valFrom, valWords, valBytes, i32, i64, f32, f64, v128, i8, i16, Packed, packedKind, packedStorage, storageFrom, storageWords, field}
 use Rattle.types.specs.Answers.{codeOr}
@@ -23,16 +23,6 @@ use Rattle.types.specs.declared.StorageType.the-variants.{Val}
 use Rattle.types.specs.declared.FieldType.{FieldType}
 
 -- ---- two words
-
-pub drop-two : (s : List ℕ) (p : ℕ) → p + 2 ≤ length s → drop p s ≡ getD s p 0 ∷ getD s (p + 1) 0 ∷ drop (p + 2) s
-drop-two s p h =
-    let e2 : p + 1 + 1 ≡ p + 2 = omega arith in
-    rw (drop-more s p (omega arith), drop-more s (p + 1) (omega arith), e2)
-
--- there are fewer than every value takes
-pub too-few : {A : Type 0} (F : Format A) (n : ℕ) → 0 < n → ((a : A) → length (F .print a) ≡ n) → (w : List ℕ) (at : ℕ) → length w < at + n → F .parse (drop at w) ≡ fail
-too-few F n k long w at h =
-    refuses F (drop at w) .1 (λ x r ok e. omega (arith, ap length e ∙ length-append (F .print x) r, long x, length-drop at w))
 
 module _ (w : List ℕ) (at : ℕ) (h : at + 2 ≤ length w) where
   pub ref-two : getD w at 0 < 2 ^ 32 → getD w (at + 1) 0 < 2 ^ 32 → (o : Option RefType) → refOf (getD w at 0, getD w (at + 1) 0) ≡ o
@@ -121,32 +111,3 @@ num-print = elim [ i32 ↦ refl | i64 ↦ refl | f32 ↦ refl | f64 ↦ refl | v
 
 pub num-is : (b : ℕ) (o : Option Num) (a : Num) → b ≡ codeOr numByte 0 o → o ≡ some a → b ∷ [] ≡ valBytes .print (numVal a)
 num-is b o a e f = rw (e, f) (num-print a)
-
--- ---- mutable, and a field
-
-pub flag-at : (x : ℕ) (s : List ℕ) → x ≤ 1 → flag .parse (x ∷ s) ≡ got (eqb x 1) s
-flag-at zero s h = refl
-flag-at (suc zero) s h = refl
-flag-at (suc (suc x)) s h = absurd (omega arith)
-
-pub flag-print : (x : ℕ) → x ≤ 1 → x ∷ [] ≡ flag .print (eqb x 1)
-flag-print zero h = refl
-flag-print (suc zero) h = refl
-flag-print (suc (suc x)) h = absurd (omega arith)
-
-pub flag-large : (x : ℕ) (s : List ℕ) → 1 < x → flag .parse (x ∷ s) ≡ fail
-flag-large x s h = rw (le-ltb x 2 (omega arith))
-
-abbrev pub fieldOf : StorageType → Bool → FieldType
-fieldOf v m = record { «element_type» = v; mutable = m }
-
-module _ (F : Format StorageType) (s : List ℕ) where
-  pub field-read : (v : StorageType) (t : List ℕ) → F .parse s ≡ got v t → field F .parse s ≡ map (fieldOf v) (flag .parse t)
-  field-read v t e = rw e (go (flag .parse t))
-    where
-      go : (m : Parsed Bool) → map (λ (p : StorageType × Bool). fieldOf (p .0) (p .1)) (bind m (λ b r. got (v, b) r)) ≡ map (fieldOf v) m
-      go fail = refl
-      go (got b r) = refl
-
-  pub field-none : F .parse s ≡ fail → field F .parse s ≡ fail
-  field-none e = rw e

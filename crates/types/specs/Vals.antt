@@ -11,6 +11,7 @@ use lib.Dec.{lit<, ltb}
 use borrow.Author.Tests.{lt-ltb, ne-eqb}
 use Rattle.format.specs.Format.{Format}
 use Rattle.format.specs.Basic.{find, table, tag, lit, flag}
+use Rattle.format.specs.Sequence.{Joins, joins}
 use Rattle.format.specs.Combine.{pair, iso}
 use Rattle.format.specs.Alternatives.{Heads, is, alt, heads-alt, heads-code, heads-tag}
 use Rattle.types.specs.Abstract.{byte-range, byteOf}
@@ -209,3 +210,8 @@ fieldWords = field storageWords
 
 abbrev pub fieldBytes : Format FieldType
 fieldBytes = field storageBytes
+
+-- so it is walked by walking the two, one behind the other
+abbrev pub field-joins : (F G : Format StorageType)
+    → Joins (F .parse) (G .print) (λ a. 9) (flag .parse) (flag .print) (λ b. 9) (field F .parse) (field G .print) (λ c. 9)
+field-joins F G = joins F (G .print) flag (flag .print) (field F) (field G .print) (λ p. record { «element_type» = p .0; mutable = p .1 }) (λ s. refl) (λ a b. refl)

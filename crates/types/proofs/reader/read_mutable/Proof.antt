@@ -5,11 +5,10 @@ use Prim.Native.Nat.{_+_}
 use native.Mathlib.Omega.{arith}
 use lib.ListN.{getD, drop}
 use lib.Dec.{eqb}
-use Rattle.format.specs.Basic.{flag}
+use Rattle.format.specs.Basic.{flag, flag-at, flag-print, flag-large}
 use Rattle.format.specs.Count.{adds-eq}
 use Rattle.format.specs.Read.{drop-more, drop-end}
 use Rattle.format.specs.Walk.{walks-no, walks-got}
-use Rattle.types.proofs.Words.{flag-at, flag-print, flag-large}
 use borrow.Author.Needs.{needs}
 use Rattle.types.proofs.reader.read_mutable.Statement.{statement}
 use Rattle.types.proofs.reader.read_mutable.Tie as tie

@@ -1,11 +1,7 @@
--- `types::writer::walk_field` meets its contract. Assumes nothing.
-use mathlib.Core.Path.{refl}
+-- `types::writer::walk_field` meets its contract: a storage type, and whether it is mutable. Assumes nothing.
 use denote.Ref.{now}
-use lib.ListN.{drop}
-use Rattle.format.specs.Basic.{flag}
-use Rattle.format.specs.Walk.{walks-no, walks-tail, no-walks, got-walks}
-use Rattle.types.specs.Vals.{storageWords, storageBytes, fieldWords, fieldBytes}
-use Rattle.types.proofs.Words.{fieldOf, field-read, field-none}
+use Rattle.format.specs.Sequence.{joins-no, joins-got}
+use Rattle.types.specs.Vals.{storageWords, storageBytes, field-joins}
 use borrow.Author.Needs.{needs}
 use Rattle.types.proofs.writer.walk_field.Statement.{statement}
 use Rattle.types.proofs.writer.walk_field.Tie as tie
@@ -13,18 +9,14 @@ use Rattle.types.proofs.writer.walk_field.Tie as tie
 returns : tie.Need-returns
 returns c =
     let a = c .before .before .before .before .before .before .before .before .args in
-    let w = now (a .words) in
-    walks-no fieldWords (fieldBytes .print) (λ x. 9) w (a .at) (now (a .out)) (a .s) _
-    (field-none storageWords (drop (a .at) w) (no-walks storageWords (storageBytes .print) (λ x. 9) w (a .at) (now (a .out)) (a .s) _ _ (c .before .before .before .before .walk-storage .ensures) (c .enum-told .given .1)))
+    joins-no _ _ _ _ _ _ _ _ _ (field-joins storageWords storageBytes) (now (a .words)) (a .at) (now (a .out)) (a .s) _ _ (c .before .before .before .before .walk-storage .ensures) _ (c .enum-told .given .1)
 
 returns-2 : tie.Need-returns-2
 returns-2 c =
     let a = c .before .before .before .before .before .before .before .before .before .before .before .before .before .args in
-    let w = now (a .words) in
     let v = c .before .before .before .before .before .p .given .0 in
-    let g = got-walks storageWords (storageBytes .print) (λ x. 9) w (a .at) (now (a .out)) (a .s) _ _ (v .0) (v .1 .0) (c .before .before .before .before .before .before .before .before .before .walk-storage .ensures) (c .before .before .before .before .before .p .given .1) in
-    walks-tail flag (flag .print) (λ x. 9) fieldWords (fieldBytes .print) (λ x. 9) (fieldOf (g .value)) (storageBytes .print (g .value)) 9 w (v .0) (a .at) (now (a .out)) (a .s) _ (v .1 .0) _ _
-    (field-read storageWords (drop (a .at) w) (g .value) (drop (v .0) w) (g .read)) (λ m. refl) (λ m. refl) (g .adds) (c .before .before .walk-mutable .ensures)
+    joins-got _ _ _ _ _ _ _ _ _ (field-joins storageWords storageBytes) (now (a .words)) (a .at) (now (a .out)) (a .s) _ _ (c .before .before .before .before .before .before .before .before .before .walk-storage .ensures) _ (v .0) (v .1 .0) _
+    (c .before .before .before .before .before .p .given .1) (c .before .before .walk-mutable .ensures)
 
 pub walk-field-spec : {M : Type 1} → statement M
 walk-field-spec =

@@ -9,7 +9,8 @@ use Rattle.format.specs.Walk.{walks-no, walks-got}
 use Rattle.types.specs.Words.{refWords, refOf}
 use Rattle.types.specs.Bytes.{refBytes}
 use Rattle.types.proofs.Heaps.{ref-some, ref-none}
-use Rattle.types.proofs.Words.{too-few, ref-two}
+use Rattle.format.specs.Read.{too-few}
+use Rattle.types.proofs.Words.{ref-two}
 use borrow.Author.Needs.{needs}
 use Rattle.types.proofs.writer.walk_ref.Statement.{statement}
 use Rattle.types.proofs.writer.walk_ref.Tie as tie
@@ -18,10 +19,10 @@ two : (g : tie.Else2) → let a = g .before .before .before .before .args in a .
 two g = omega (arith, g .if2 .left, g .before .if1 .left)
 
 returns : tie.Need-returns
-returns c = let a = c .before .before .before .args in walks-no refWords (refBytes .print) (λ x. 9) (now (a .words)) (a .at) (now (a .out)) (a .s) (now (a .out)) (too-few refWords 2 (omega arith) (λ r. refl) (now (a .words)) (a .at) (omega (arith, c .if1 .taken)))
+returns c = let a = c .before .before .before .args in walks-no refWords (refBytes .print) (λ x. 9) (now (a .words)) (a .at) (now (a .out)) (a .s) (now (a .out)) (too-few refWords 2 (omega arith) (λ r ok. omega arith) (now (a .words)) (a .at) (omega (arith, c .if1 .taken)))
 
 returns-2 : tie.Need-returns-2
-returns-2 c = let a = c .before .before .before .before .args in walks-no refWords (refBytes .print) (λ x. 9) (now (a .words)) (a .at) (now (a .out)) (a .s) (now (a .out)) (too-few refWords 2 (omega arith) (λ r. refl) (now (a .words)) (a .at) (omega (arith, c .if2 .taken, c .before .if1 .left)))
+returns-2 c = let a = c .before .before .before .before .args in walks-no refWords (refBytes .print) (λ x. 9) (now (a .words)) (a .at) (now (a .out)) (a .s) (now (a .out)) (too-few refWords 2 (omega arith) (λ r ok. omega arith) (now (a .words)) (a .at) (omega (arith, c .if2 .taken, c .before .if1 .left)))
 
 returns-3 : tie.Need-returns-3
 returns-3 c =

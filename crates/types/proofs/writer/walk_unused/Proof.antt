@@ -7,7 +7,8 @@ use native.Mathlib.Omega.{arith}
 use lib.ListN.{length}
 use Rattle.format.specs.Walk.{walks-no, walks-got}
 use Rattle.types.specs.Vals.{unused}
-use Rattle.types.proofs.Words.{too-few, unused-two, used-first, used-second}
+use Rattle.format.specs.Read.{too-few}
+use Rattle.types.proofs.Words.{unused-two, used-first, used-second}
 use borrow.Author.Needs.{needs}
 use Rattle.types.proofs.writer.walk_unused.Statement.{statement}
 use Rattle.types.proofs.writer.walk_unused.Tie as tie
@@ -16,10 +17,10 @@ two : (g : tie.Else2) → let a = g .before .before .before .before .args in a .
 two g = omega (arith, g .if2 .left, g .before .if1 .left)
 
 returns : tie.Need-returns
-returns c = let a = c .before .before .before .args in walks-no unused (λ x. a .b ∷ []) (λ x. 9) (now (a .words)) (a .at) (now (a .out)) (a .s) (now (a .out)) (too-few unused 2 (omega arith) (λ u. refl) (now (a .words)) (a .at) (omega (arith, c .if1 .taken)))
+returns c = let a = c .before .before .before .args in walks-no unused (λ x. a .b ∷ []) (λ x. 9) (now (a .words)) (a .at) (now (a .out)) (a .s) (now (a .out)) (too-few unused 2 (omega arith) (λ u ok. omega arith) (now (a .words)) (a .at) (omega (arith, c .if1 .taken)))
 
 returns-2 : tie.Need-returns-2
-returns-2 c = let a = c .before .before .before .before .args in walks-no unused (λ x. a .b ∷ []) (λ x. 9) (now (a .words)) (a .at) (now (a .out)) (a .s) (now (a .out)) (too-few unused 2 (omega arith) (λ u. refl) (now (a .words)) (a .at) (omega (arith, c .if2 .taken, c .before .if1 .left)))
+returns-2 c = let a = c .before .before .before .before .args in walks-no unused (λ x. a .b ∷ []) (λ x. 9) (now (a .words)) (a .at) (now (a .out)) (a .s) (now (a .out)) (too-few unused 2 (omega arith) (λ u ok. omega arith) (now (a .words)) (a .at) (omega (arith, c .if2 .taken, c .before .if1 .left)))
 
 returns-3 : tie.Need-returns-3
 returns-3 c = let a = c .before .before .before .before .before .before .args in walks-no unused (λ x. a .b ∷ []) (λ x. 9) (now (a .words)) (a .at) (now (a .out)) (a .s) (now (a .out)) (used-first (now (a .words)) (a .at) (two (c .before .before)) (c .if3 .taken))
