@@ -219,11 +219,11 @@ abbrev pub markOf : Option (Unit {0}) → Bool
 markOf none = false
 markOf (some u) = true
 
-mark-of-to : (b : Bool) → markOf (markTo b) ≡ b
+pub mark-of-to : (b : Bool) → markOf (markTo b) ≡ b
 mark-of-to true = refl
 mark-of-to false = refl
 
-mark-to-of : (o : Option (Unit {0})) → markTo (markOf o) ≡ o
+pub mark-to-of : (o : Option (Unit {0})) → markTo (markOf o) ≡ o
 mark-to-of none = refl
 mark-to-of (some u) = refl
 

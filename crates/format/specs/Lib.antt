@@ -13,5 +13,6 @@ pub mod Read
 pub mod Count
 pub mod Walk
 pub mod Sequence
+pub mod Leads
 pub mod Loop
 pub mod RoundTrip
