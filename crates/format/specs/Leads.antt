@@ -7,11 +7,12 @@ use mathlib.Core.Option.{Option, none, some}
 use mathlib.Core.List.{List, [], _∷_, _++_, append-assoc}
 use Prim.Native.Nat.{ℕ}
 use borrow.Author.Tests.{ne-eqb, eq-eqb, eqb-true}
-use Rattle.format.specs.Parsed.{Parsed, fail, got, got-value, got-rest, bind, bind-inv, map, map-inv, fromOption, fromOption-inv}
+use Rattle.format.specs.Parsed.{Parsed, fail, got, got-rest, fail-got, bind, bind-inv, map, map-inv, fromOption, fromOption-inv}
 use Rattle.format.specs.Format.{Format}
 use Rattle.format.specs.Basic.{Part, empty}
 use Rattle.format.specs.Alternatives.{Heads, is, markTo, markOf, mark-of-to, mark-to-of}
 use Rattle.format.specs.Answers.{neither}
+use Rattle.format.specs.Sequence.{Joins}
 
 -- begins: the numbers that it begins with where it is there. What follows begins with none of them
 pub record Lead (A : Type 0) : Type 1 where
@@ -66,17 +67,32 @@ module _ {A B : Type 0} (L : Lead A) (G : Format B) where
       go (inl e) = let (x, t, f, n) = g (q .1) (ok .1) in (x, t, ap (λ (l : List ℕ). l ++ G .print (q .1)) e ∙ f, n)
       go (inr (x, t, e, n)) = (x, t ++ G .print (q .1), ap (λ (l : List ℕ). l ++ G .print (q .1)) e, k x n)
 
+-- so it is walked by walking the two, one behind the other
+pub led-joins : {A B : Type 0} (L : Lead A) (f : A → List ℕ) (G : Format B) (f′ : B → List ℕ) (h : Heads G (L .begins) false)
+    → Joins (L .parse) f (λ a. 9) (G .parse) f′ (λ b. 9) (led L G h .parse) (λ p. f (p .0) ++ f′ (p .1)) (λ c. 9)
+led-joins L f G f′ h =
+    record { ends = λ s a r e. (L .print a, L .only s a r e .1); join = λ a b. (a, b); reads = λ s. refl; writes = λ a b. refl; draws = λ a b. refl }
+
 -- ---- none; k and a value, or another lead; and along a part
+
+-- something follows it
+abbrev pub noneParse : List ℕ → Parsed (Unit {0})
+noneParse [] = fail
+noneParse (x ∷ s) = got tt (x ∷ s)
+
+pub none-only : (s : List ℕ) (a : Unit {0}) (r : List ℕ) → noneParse s ≡ got a r → Unit {0} × (s ≡ r)
+none-only [] a r e = absurd (fail-got _ a r refl e)
+none-only (x ∷ s) a r e = (tt, got-rest e)
 
 abbrev pub noLead : Lead (Unit {0})
 noLead =
     record {
       Ok = λ a. Unit {0};
       print = λ a. [];
-      parse = λ s. got tt s;
+      parse = noneParse;
       begins = λ x. false;
       back = λ a x r h n. refl;
-      only = λ s a r e. (tt, got-rest e);
+      only = none-only;
       first = λ a h. inl refl;
     }
 
@@ -94,17 +110,14 @@ module _ {A B : Type 0} (k : ℕ) (F : Format A) (L : Lead B) where
   orPick false x s = map inr (L .parse (x ∷ s))
 
   abbrev pub orParse : List ℕ → Parsed (A ⊎ B)
-  orParse [] = map inr (L .parse [])
+  orParse [] = fail
   orParse (x ∷ s) = orPick (is k x) x s
 
   abbrev pub orBegins : ℕ → Bool
   orBegins x = is k x || L .begins x
 
   pub or-only : (s : List ℕ) (a : A ⊎ B) (r : List ℕ) → orParse s ≡ got a r → orOk a × (s ≡ orPrint a ++ r)
-  or-only [] a r e =
-      let i = map-inv {B = A ⊎ B} inr (L .parse []) a r e in
-      let f = L .only [] (i .0) r (i .1) in
-      (subst orOk (i .2) (f .0), f .1 ∙ ap (λ (w : A ⊎ B). orPrint w ++ r) (i .2))
+  or-only [] a r e = absurd (fail-got _ a r refl e)
   or-only (x ∷ s) a r e = go (is k x) refl e
     where
       go : (c : Bool) → is k x ≡ c → orPick c x s ≡ got a r → orOk a × (x ∷ s ≡ orPrint a ++ r)

@@ -1,9 +1,10 @@
 -- A list: its count, and then its members. Assumes nothing.
 use mathlib.Core.Path.{_≡_, refl, sym, _∙_, ap, subst}
 use mathlib.Core.List.{List, [], _∷_, _++_, append-assoc, append-nil}
-use Prim.Native.Nat.{ℕ, zero, suc}
-use lib.ListN.{length}
-use Rattle.format.specs.Parsed.{Parsed, got, got-value, got-rest, bind, bind-inv}
+use Prim.Native.Nat.{ℕ, zero, suc, _<_, _≤_}
+use native.Mathlib.Omega.{arith}
+use lib.ListN.{length, length-append}
+use Rattle.format.specs.Parsed.{Parsed, fail, got, got-value, got-rest, bind, bind-inv}
 use Rattle.format.specs.Format.{Format}
 
 -- n members, one after the other
@@ -55,6 +56,21 @@ module _ {A : Type 0} (F : Format A) where
             ∙ ap (λ (l : List A). prints (F .print) l ++ j .1) q
             ∙ ap (λ (l : List ℕ). prints (F .print) xs ++ l) (got-rest (j .3)),
       )
+
+  -- where each member takes a number at least, there are no more members than numbers
+  module _ (long : (a : A) → F .Ok a → 0 < length (F .print a)) where
+    prints-long : (xs : List A) → All (F .Ok) xs → length xs ≤ length (prints (F .print) xs)
+    prints-long [] h = omega arith
+    prints-long (a ∷ xs) h = omega (arith, prints-long xs (h .1), long a (h .0), length-append (F .print a) (prints (F .print) xs))
+
+    pub times-short : (n : ℕ) (s : List ℕ) → length s < n → times (F .parse) n s ≡ fail
+    times-short n s h = go (times (F .parse) n s) refl
+      where
+        go : (m : Parsed (List A)) → times (F .parse) n s ≡ m → m ≡ fail
+        go fail e = refl
+        go (got xs r) e =
+            let (l, ok, q) = times-only n s xs r e in
+            absurd (omega (arith, prints-long xs ok, ap length q, length-append (prints (F .print) xs) r))
 
 -- the count by N, the members by F
 module _ {A : Type 0} (N : Format ℕ) (F : Format A) where

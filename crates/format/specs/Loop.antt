@@ -7,10 +7,13 @@ use native.Mathlib.Omega.{arith}
 use lib.ListN.{length, drop, length-append, length-drop}
 use Rattle.format.specs.Parsed.{Parsed, fail, got, bind, map}
 use Rattle.format.specs.Format.{Format}
-use Rattle.format.specs.Lists.{times, prints, prints-more}
+use Rattle.format.specs.Lists.{times, times-short, times-only, many, prints, prints-more}
+use Rattle.format.specs.Read.{place-at}
 use Rattle.format.specs.Count.{Adds, adds-nil, adds-seq, adds-eq, min-assoc}
-use Rattle.format.specs.Walk.{Gone}
+use Rattle.format.specs.Walk.{Gone, Walked, Walks}
 use Rattle.format.specs.declared.Done.{Done}
+use Rattle.format.specs.declared.Walk.{Walk}
+use Rattle.format.specs.declared.Walk.the-variants as walks
 
 -- ---- how far the reading has come
 
@@ -130,3 +133,44 @@ module _ {A : Type 0} (F : Format A) (f : ℕ → A → List ℕ) (g : A → ℕ
         let z : left ≡ 0 = omega arith in
         let c0 : Come (F .parse) n (drop q w) (I .xs) 0 (drop p w) = subst (λ (m : ℕ). Come (F .parse) n (drop q w) (I .xs) m (drop p w)) z (I .come) in
         (come-done (F .parse) c0, omega arith)
+
+-- ---- a list whose members draw no refusal, and of which is written the same wherever they stand
+
+least-none : {A : Type 0} (xs : List A) → leastOf (λ a. 9) xs ≡ 9
+least-none [] = refl
+least-none (a ∷ xs) = rw (least-none xs)
+
+module _ {A : Type 0} (F : Format A) (f : A → List ℕ) where
+  -- n members from the place q on
+  abbrev pub Members : List ℕ → ℕ → ℕ → List ℕ → Done → List ℕ → Walk → Type 0
+  Members w q n old s new r = Walked (prints f) (λ xs. 9) w (times (F .parse) n (drop q w)) old s new r
+
+  module _ {w : List ℕ} {q n : ℕ} {old : List ℕ} {s₀ : Done} {out : List ℕ} {s : Done} {p left : ℕ} (I : Going F (λ k a. f a) (λ a. 9) w q n old s₀ out s p left) where
+    pub members-no : (new : List ℕ) → 0 < left → F .parse (drop p w) ≡ fail → Members w q n old s₀ new walks.No
+    members-no new l e = rw (going-stop F (λ k a. f a) (λ a. 9) I l e) refl
+
+    pub members-got : left ≤ 0 → Members w q n old s₀ out (walks.Got p s)
+    members-got l =
+        rw (going-done F (λ k a. f a) (λ a. 9) I l .0) (s, rw (place-at w p (I .place)), adds-eq (printsAt-plain (F .print) f q (I .xs)) (least-none (I .xs)) (I .adds))
+
+  -- behind their count: N reads it, and c is what is written of it
+  module _ (N : Format ℕ) (c : ℕ → List ℕ) (w : List ℕ) (at : ℕ) (old : List ℕ) (s : Done) (new : List ℕ) where
+    abbrev pub Counted : Walk → Type 0
+    Counted r = Walks (many N F) (λ xs. c (length xs) ++ prints f xs) (λ xs. 9) w at old s new r
+
+    pub counted-no : N .parse (drop at w) ≡ fail → Counted walks.No
+    counted-no e = rw e refl
+
+    module _ (n p : ℕ) (e : N .parse (drop at w) ≡ got n (drop p w)) where
+      pub counted-short : ((a : A) → F .Ok a → 0 < length (F .print a)) → length (drop p w) < n → Counted walks.No
+      counted-short long h = rw (e, times-short F long n (drop p w) h) refl
+
+      pub counted-got : (cur : List ℕ) (t : Done) (r : Walk) → Adds (c n) 9 old s cur t → Members w p n cur t new r → Counted r
+      counted-got cur t r a k = rw e (go (times (F .parse) n (drop p w)) refl k)
+        where
+          go : (m : Parsed (List A)) → times (F .parse) n (drop p w) ≡ m → Walked (prints f) (λ xs. 9) w m cur t new r
+              → Walked (λ xs. c (length xs) ++ prints f xs) (λ xs. 9) w m old s new r
+          go fail q k = k
+          go (got xs u) q k =
+              let l : n ≡ length xs = sym (times-only F n (drop p w) xs u q .0) in
+              (k .0, k .1, adds-eq (ap (λ (i : ℕ). c i ++ prints f xs) l) refl (adds-seq a (k .2)))

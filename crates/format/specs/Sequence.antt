@@ -84,15 +84,15 @@ pair-reads {A} {B} {C} F G h s = go (F .parse s)
     go fail = refl
     go (got a r) = in-it a (G .parse r)
 
-pub pair-plain : {A B : Type 0} (F : Format A) (G : Format B) (s : List ℕ) → pair F G .parse s ≡ bind (F .parse s) (λ a r. map (λ b. (a, b)) (G .parse r))
-pair-plain {A} {B} F G s = same (pair F G .parse s) ∙ pair-reads F G (λ p. p) s
-  where
-    same : (m : Parsed (A × B)) → m ≡ map (λ p. p) m
-    same fail = refl
-    same (got p r) = refl
+-- with no refusals: what most types are
+module _ {A B : Type 0} (F : Format A) (f : A → List ℕ) (G : Format B) (f′ : B → List ℕ) where
+  pub joins : {C : Type 0} (X : Format C) (f″ : C → List ℕ) (h : A × B → C) → ((s : List ℕ) → X .parse s ≡ map h (pair F G .parse s))
+      → ((a : A) (b : B) → f a ++ f′ b ≡ f″ (h (a, b))) → Joins (F .parse) f (λ a. 9) (G .parse) f′ (λ b. 9) (X .parse) f″ (λ c. 9)
+  joins X f″ h e w = record { ends = leaves F; join = λ a b. h (a, b); reads = λ s. e s ∙ pair-reads F G h s; writes = w; draws = λ a b. refl }
 
--- an iso of a pair, with no refusals: what most types are
-module _ {A B C : Type 0} (F : Format A) (f : A → List ℕ) (G : Format B) (f′ : B → List ℕ) (X : Format C) (f″ : C → List ℕ) where
-  pub joins : (h : A × B → C) → ((s : List ℕ) → X .parse s ≡ map h (pair F G .parse s)) → ((a : A) (b : B) → f a ++ f′ b ≡ f″ (h (a, b)))
-      → Joins (F .parse) f (λ a. 9) (G .parse) f′ (λ b. 9) (X .parse) f″ (λ c. 9)
-  joins h e w = record { ends = leaves F; join = λ a b. h (a, b); reads = λ s. e s ∙ pair-reads F G h s; writes = w; draws = λ a b. refl }
+  same : (m : Parsed (A × B)) → m ≡ map (λ p. p) m
+  same fail = refl
+  same (got p r) = refl
+
+  pub pair-joins : Joins (F .parse) f (λ a. 9) (G .parse) f′ (λ b. 9) (pair F G .parse) (λ p. f (p .0) ++ f′ (p .1)) (λ c. 9)
+  pair-joins = joins (pair F G) (λ p. f (p .0) ++ f′ (p .1)) (λ p. p) (λ s. same (pair F G .parse s)) (λ a b. refl)

@@ -68,14 +68,19 @@ module _ {A : Type 0} (W : Format A) (f : A → List ℕ) (g : A → ℕ) (w : L
         adds = q .adds;
       }
 
+-- what a walk found, as something else, behind what was appended before it
+pub walked-map : {A B : Type 0} (f : A → List ℕ) (g : A → ℕ) (f′ : B → List ℕ) (g′ : B → ℕ) (h : A → B) (pre : List ℕ) (l : ℕ) (w : List ℕ) (m : Parsed A)
+    (old : List ℕ) (s : Done) (cur : List ℕ) (t : Done) (new : List ℕ) (r : Walk)
+    → ((a : A) (q : List ℕ) → m ≡ got a q → pre ++ f a ≡ f′ (h a)) → ((a : A) → min l (g a) ≡ g′ (h a))
+    → Adds pre l old s cur t → Walked f g w m cur t new r → Walked f′ g′ w (map h m) old s new r
+walked-map f g f′ g′ h pre l w fail old s cur t new r ef eg a x = x
+walked-map f g f′ g′ h pre l w (got v q) old s cur t new r ef eg a x = (x .0, x .1, adds-eq (ef v q refl) (eg v) (adds-seq a (x .2)))
+
 -- a walk whose first part is done already: pre was appended, and what is left is another walk's
 pub walks-tail : {A B : Type 0} (W : Format A) (f : A → List ℕ) (g : A → ℕ) (X : Format B) (f′ : B → List ℕ) (g′ : B → ℕ) (h : A → B) (pre : List ℕ) (l : ℕ) (w : List ℕ) (at at′ : ℕ)
     (old : List ℕ) (s : Done) (cur : List ℕ) (t : Done) (new : List ℕ) (r : Walk)
     → X .parse (drop at′ w) ≡ map h (W .parse (drop at w)) → ((a : A) → pre ++ f a ≡ f′ (h a)) → ((a : A) → min l (g a) ≡ g′ (h a))
     → Adds pre l old s cur t → Walks W f g w at cur t new r → Walks X f′ g′ w at′ old s new r
 walks-tail {A} {B} W f g X f′ g′ h pre l w at at′ old s cur t new r e ef eg a x =
-    subst (λ (m : Parsed B). Walked f′ g′ w m old s new r) (sym e) (go (W .parse (drop at w)) x)
-  where
-    go : (m : Parsed A) → Walked f g w m cur t new r → Walked f′ g′ w (map h m) old s new r
-    go fail x = x
-    go (got v q) x = (x .0, x .1, adds-eq (ef v) (eg v) (adds-seq a (x .2)))
+    subst (λ (m : Parsed B). Walked f′ g′ w m old s new r) (sym e)
+    (walked-map f g f′ g′ h pre l w (W .parse (drop at w)) old s cur t new r (λ v q p. ef v) eg a x)
