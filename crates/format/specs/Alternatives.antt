@@ -5,7 +5,9 @@ use mathlib.Core.Bool.{Bool, true, false, cond}
 use mathlib.Core.Option.{Option, none, some}
 use mathlib.Core.List.{List, [], _∷_, _++_}
 use Prim.Native.Nat.{ℕ, _<_}
+use native.Mathlib.Omega.{arith}
 use lib.Dec.{eqb}
+use lib.ListN.{length}
 use borrow.Author.Tests.{eq-eqb}
 use Rattle.format.specs.Parsed.{Parsed, fail, got, fail-got, bind, map, map-inv, fromOption}
 use Rattle.format.specs.Format.{Format}
@@ -15,6 +17,10 @@ use Rattle.format.specs.Combine.{pair, iso}
 -- everything that F prints begins with a number at which p is v
 abbrev pub Heads : {A : Type 0} → Format A → (ℕ → Bool) → Bool → Type 0
 Heads {A} F p v = (a : A) → F .Ok a → (x : ℕ) × (t : List ℕ) × (F .print a ≡ x ∷ t) × (p x ≡ v)
+
+-- so it prints something
+pub heads-long : {A : Type 0} (F : Format A) (p : ℕ → Bool) (v : Bool) → Heads F p v → (a : A) → F .Ok a → 0 < length (F .print a)
+heads-long F p v h a ok = let (x, t, e, _) = h a ok in omega (arith, ap length e)
 
 -- whether a number is k
 abbrev pub is : ℕ → ℕ → Bool

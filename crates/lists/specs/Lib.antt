@@ -1,0 +1,2 @@
+-- Lists of indices, value types or fields: words and bytes over one abstract syntax.
+pub mod Member
