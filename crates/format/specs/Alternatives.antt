@@ -12,7 +12,7 @@ use borrow.Author.Tests.{eq-eqb}
 use Rattle.format.specs.Parsed.{Parsed, fail, got, fail-got, bind, map, map-inv, fromOption}
 use Rattle.format.specs.Format.{Format}
 use Rattle.format.specs.Basic.{number, tag, lit, empty, via}
-use Rattle.format.specs.Combine.{pair, iso}
+use Rattle.format.specs.Combine.{dep, pair, iso}
 
 -- everything that F prints begins with a number at which p is v
 abbrev pub Heads : {A : Type 0} → Format A → (ℕ → Bool) → Bool → Type 0
@@ -159,10 +159,13 @@ pub heads-alt : {A B : Type 0} (q : ℕ → Bool) (F : Format A) (G : Format B) 
 heads-alt q F G p v hf hg (inl a) ok = hf a ok
 heads-alt q F G p v hf hg (inr b) ok = hg b ok
 
-pub heads-pair : {A B : Type 0} (F : Format A) (G : Format B) (p : ℕ → Bool) (v : Bool) → Heads F p v → Heads (pair F G) p v
-heads-pair F G p v h q ok =
+pub heads-dep : {A : Type 0} {B : A → Type 0} (F : Format A) (G : (a : A) → Format (B a)) (p : ℕ → Bool) (v : Bool) → Heads F p v → Heads (dep F G) p v
+heads-dep F G p v h q ok =
     let w = h (q .0) (ok .0) in
-    (w .0, w .1 ++ G .print (q .1), ap (λ (l : List ℕ). l ++ G .print (q .1)) (w .2), w .3)
+    (w .0, w .1 ++ G (q .0) .print (q .1), ap (λ (l : List ℕ). l ++ G (q .0) .print (q .1)) (w .2), w .3)
+
+pub heads-pair : {A B : Type 0} (F : Format A) (G : Format B) (p : ℕ → Bool) (v : Bool) → Heads F p v → Heads (pair F G) p v
+heads-pair F G p v h = heads-dep F (λ a. G) p v h
 
 -- ---- what may be missing, behind a flag: 0 and an unused 0, or 1 and the value
 

@@ -6,6 +6,7 @@ use mathlib.Core.Bool.{Bool, true, false, _||_, true≢false}
 use mathlib.Core.Option.{Option, none, some}
 use mathlib.Core.List.{List, [], _∷_, _++_, append-assoc}
 use Prim.Native.Nat.{ℕ}
+use lib.ListN.{drop}
 use borrow.Author.Tests.{ne-eqb, eq-eqb, eqb-true}
 use Rattle.format.specs.Parsed.{Parsed, fail, got, got-rest, fail-got, bind, bind-inv, map, map-inv, fromOption, fromOption-inv}
 use Rattle.format.specs.Format.{Format}
@@ -13,6 +14,9 @@ use Rattle.format.specs.Basic.{Part, empty}
 use Rattle.format.specs.Alternatives.{Heads, is, markTo, markOf, mark-of-to, mark-to-of}
 use Rattle.format.specs.Answers.{neither}
 use Rattle.format.specs.Sequence.{Joins}
+use Rattle.format.specs.Walk.{Walked}
+use Rattle.format.specs.declared.Done.{Done}
+use Rattle.format.specs.declared.Walk.{Walk}
 
 -- begins: the numbers that it begins with where it is there. What follows begins with none of them
 pub record Lead (A : Type 0) : Type 1 where
@@ -67,7 +71,11 @@ module _ {A B : Type 0} (L : Lead A) (G : Format B) where
       go (inl e) = let (x, t, f, n) = g (q .1) (ok .1) in (x, t, ap (λ (l : List ℕ). l ++ G .print (q .1)) e ∙ f, n)
       go (inr (x, t, e, n)) = (x, t ++ G .print (q .1), ap (λ (l : List ℕ). l ++ G .print (q .1)) e, k x n)
 
--- so it is walked by walking the two, one behind the other
+-- a walk over a lead: it is read, or missing, and what is written of it is appended
+abbrev pub LeadWalks : {A : Type 0} → Lead A → (A → List ℕ) → List ℕ → ℕ → List ℕ → Done → List ℕ → Walk → Type 0
+LeadWalks L f w at old s new r = Walked f (λ a. 9) w (L .parse (drop at w)) old s new r
+
+-- so a lead and what follows it are walked by walking the two, one behind the other
 pub led-joins : {A B : Type 0} (L : Lead A) (f : A → List ℕ) (G : Format B) (f′ : B → List ℕ) (h : Heads G (L .begins) false)
     → Joins (L .parse) f (λ a. 9) (G .parse) f′ (λ b. 9) (led L G h .parse) (λ p. f (p .0) ++ f′ (p .1)) (λ c. 9)
 led-joins L f G f′ h =
@@ -216,6 +224,13 @@ module _ {A B : Type 0} (L : Lead B) (to : A → B) (of : B → A) (of-to : (a :
 
 -- ---- k and a value, or nothing; and k alone, or nothing
 
+is-k : (k x : ℕ) → (is k x || false) ≡ true → x ≡ k
+is-k k x e = go (is k x) refl e
+  where
+    go : (c : Bool) → is k x ≡ c → (c || false) ≡ true → x ≡ k
+    go true i e = eqb-true x k i
+    go false i e = absurd (true≢false (sym e))
+
 module _ {A : Type 0} (k : ℕ) (F : Format A) where
   abbrev pub optionTo : Option A → A ⊎ Unit {0}
   optionTo none = inr tt
@@ -247,6 +262,10 @@ module _ {A : Type 0} (k : ℕ) (F : Format A) where
   pub option-missing : (x : ℕ) (s : List ℕ) → (x ≡ k → ⊥) → option .parse (x ∷ s) ≡ got none (x ∷ s)
   option-missing x s n = rw (ne-eqb x k n)
 
+  -- a format behind it begins with k, or as it does alone
+  pub heads-option : {B : Type 0} (G : Format B) (h : Heads G (option .begins) false) (p : ℕ → Bool) (v : Bool) → p k ≡ v → Heads G p v → Heads (led option G h) p v
+  heads-option G h p v e g = heads-led option G h p v (λ x q. ap p (is-k k x q) ∙ e) g
+
 module _ (k : ℕ) where
   abbrev pub mark : Lead Bool
   mark = isoLead (option k empty) markTo markOf mark-of-to mark-to-of
@@ -256,3 +275,6 @@ module _ (k : ℕ) where
 
   pub mark-missing : (x : ℕ) (s : List ℕ) → (x ≡ k → ⊥) → mark .parse (x ∷ s) ≡ got false (x ∷ s)
   mark-missing x s n = rw (ne-eqb x k n)
+
+  pub heads-mark : {B : Type 0} (G : Format B) (h : Heads G (mark .begins) false) (p : ℕ → Bool) (v : Bool) → p k ≡ v → Heads G p v → Heads (led mark G h) p v
+  heads-mark G h p v e g = heads-led mark G h p v (λ x q. ap p (is-k k x q) ∙ e) g

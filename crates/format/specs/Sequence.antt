@@ -7,10 +7,10 @@ use lib.ListN.{length, take, drop, length-append, take-append-drop}
 use lib.Seq.{drop-append-seam}
 use Rattle.format.specs.Parsed.{Parsed, fail, got, bind, map}
 use Rattle.format.specs.Format.{Format}
-use Rattle.format.specs.Combine.{pair}
+use Rattle.format.specs.Combine.{dep, pair}
 use Rattle.format.specs.Read.{placeOf}
 use Rattle.format.specs.Count.{Adds, adds-seq, adds-eq}
-use Rattle.format.specs.Walk.{Walked}
+use Rattle.format.specs.Walk.{Walked, Walks, walked-map}
 use Rattle.format.specs.declared.Done.{Done}
 use Rattle.format.specs.declared.Walk.{Walk}
 use Rattle.format.specs.declared.Walk.the-variants as walks
@@ -96,3 +96,20 @@ module _ {A B : Type 0} (F : Format A) (f : A → List ℕ) (G : Format B) (f′
 
   pub pair-joins : Joins (F .parse) f (λ a. 9) (G .parse) f′ (λ b. 9) (pair F G .parse) (λ p. f (p .0) ++ f′ (p .1)) (λ c. 9)
   pair-joins = joins (pair F G) (λ p. f (p .0) ++ f′ (p .1)) (λ p. p) (λ s. same (pair F G .parse s)) (λ a b. refl)
+
+-- a value that is there, and one whose format depends on it: pre was appended of the first, and a walk over the second is one over both
+module _ {A : Type 0} {B : A → Type 0} (F : Format A) (G : (a : A) → Format (B a)) where
+  dep-known : (a : A) (s r : List ℕ) → F .parse s ≡ got a r → dep F G .parse s ≡ map {B = (a : A) × B a} (λ b. (a, b)) (G a .parse r)
+  dep-known a s r e = rw e (go (G a .parse r))
+    where
+      go : (m : Parsed (B a)) → bind {B = (a : A) × B a} m (λ b t. got (a, b) t) ≡ map {B = (a : A) × B a} (λ b. (a, b)) m
+      go fail = refl
+      go (got b t) = refl
+
+  pub walks-known : (f : (a : A) × B a → List ℕ) (a : A) (g : B a → List ℕ) (pre : List ℕ) (w : List ℕ) (at p : ℕ) (old : List ℕ) (s : Done) (cur : List ℕ) (t : Done)
+      (new : List ℕ) (r : Walk) → F .parse (drop at w) ≡ got a (drop p w)
+      → ((b : B a) (q : List ℕ) → G a .parse (drop p w) ≡ got b q → pre ++ g b ≡ f (a, b)) → Adds pre 9 old s cur t → Walks (G a) g (λ b. 9) w p cur t new r
+      → Walks (dep F G) f (λ q. 9) w at old s new r
+  walks-known f a g pre w at p old s cur t new r e ef x y =
+      subst (λ (m : Parsed ((a : A) × B a)). Walked f (λ q. 9) w m old s new r) (sym (dep-known a (drop at w) (drop p w) e))
+      (walked-map g (λ b. 9) f (λ q. 9) (λ b. (a, b)) pre 9 w (G a .parse (drop p w)) old s cur t new r ef (λ b. refl) x y)
