@@ -39,6 +39,10 @@ pub map-inv : {A B : Type 0} (f : A → B) (m : Parsed A) (b : B) (t : List ℕ)
 map-inv f fail b t e = absurd (fail-got _ b t refl e)
 map-inv f (got a r) b t e = (a, ap (λ (l : List ℕ). got a l) (got-rest e), got-value e)
 
+pub map-same : {A : Type 0} (m : Parsed A) → m ≡ map (λ a. a) m
+map-same fail = refl
+map-same (got a r) = refl
+
 pub map-map : {A B C : Type 0} (g : B → C) (f : A → B) (m : Parsed A) → map g (map f m) ≡ map (λ a. g (f a)) m
 map-map g f fail = refl
 map-map g f (got a r) = refl

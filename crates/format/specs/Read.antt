@@ -25,6 +25,20 @@ drop-two s p h =
     let e : p + 1 + 1 ≡ p + 2 = omega arith in
     rw (drop-more s p (omega arith), drop-more s (p + 1) (omega arith), e)
 
+-- a value that takes one number, by the number that stands there; and none, where that number is no value's
+pub one-read : {A : Type 0} (F : Format A) (a : A) (x : ℕ) → F .Ok a → F .print a ≡ x ∷ [] → (w : List ℕ) (at : ℕ) → at < length w → getD w at 0 ≡ x
+    → F .parse (drop at w) ≡ got a (drop (at + 1) w)
+one-read F a x ok e w at h q = rw (drop-more w at h, q) (ap (λ (l : List ℕ). F .parse (l ++ drop (at + 1) w)) (sym e) ∙ F .back a (drop (at + 1) w) ok)
+
+pub none-read : {A : Type 0} (F : Format A) (code : A → ℕ) → ((a : A) → F .print a ≡ code a ∷ []) → (w : List ℕ) (at : ℕ) → at < length w
+    → ((a : A) → getD w at 0 ≡ code a → ⊥) → F .parse (drop at w) ≡ fail
+none-read F code one w at h n = refuses F (drop at w) .1 go
+  where
+    go : (a : _) (r : List ℕ) → F .Ok a → drop at w ≡ F .print a ++ r → ⊥
+    go a r ok e =
+        let q : getD w at 0 ∷ drop (at + 1) w ≡ code a ∷ r = sym (drop-more w at h) ∙ e ∙ ap (λ (l : List ℕ). l ++ r) (one a) in
+        n a (cc q)
+
 -- fewer than every value takes
 pub too-few : {A : Type 0} (F : Format A) (n : ℕ) → 0 < n → ((a : A) → F .Ok a → n ≤ length (F .print a)) → (w : List ℕ) (at : ℕ) → length w < at + n
     → F .parse (drop at w) ≡ fail

@@ -5,7 +5,7 @@ use Prim.Native.Nat.{ℕ, _≤_, min}
 use native.Mathlib.Omega.{arith}
 use lib.ListN.{length, take, drop, length-append, take-append-drop}
 use lib.Seq.{drop-append-seam}
-use Rattle.format.specs.Parsed.{Parsed, fail, got, bind, map}
+use Rattle.format.specs.Parsed.{Parsed, fail, got, bind, map, map-map}
 use Rattle.format.specs.Format.{Format}
 use Rattle.format.specs.Combine.{dep, pair}
 use Rattle.format.specs.Read.{placeOf}
@@ -71,31 +71,41 @@ module _ {A B C : Type 0} (P : List ℕ → Parsed A) (f : A → List ℕ) (g : 
             second a (x .0) (Q t) (x .2)
             (subst (λ (l : List ℕ). Walked f′ g′ w (Q l) cur (x .0) new r′) t′ (subst (λ (v : Done). Walked f′ g′ w (Q (drop p w)) cur v new r′) ue k))
 
--- a pair, and what is made of it
-pub pair-reads : {A B C : Type 0} (F : Format A) (G : Format B) (h : A × B → C) (s : List ℕ)
-    → map h (pair F G .parse s) ≡ bind (F .parse s) (λ a r. map (λ b. h (a, b)) (G .parse r))
-pair-reads {A} {B} {C} F G h s = go (F .parse s)
+-- the value as something else
+pub joins-map : {A B C D : Type 0} (P : List ℕ → Parsed A) (f : A → List ℕ) (g : A → ℕ) (Q : List ℕ → Parsed B) (f′ : B → List ℕ) (g′ : B → ℕ) (X : List ℕ → Parsed C)
+    (f″ : C → List ℕ) (g″ : C → ℕ) (Y : List ℕ → Parsed D) (f‴ : D → List ℕ) (g‴ : D → ℕ) (h : C → D) → ((s : List ℕ) → Y s ≡ map h (X s))
+    → ((c : C) → f″ c ≡ f‴ (h c)) → ((c : C) → g″ c ≡ g‴ (h c)) → Joins P f g Q f′ g′ X f″ g″ → Joins P f g Q f′ g′ Y f‴ g‴
+joins-map {A} {B} {C} {D} P f g Q f′ g′ X f″ g″ Y f‴ g‴ h e ef eg J =
+    record {
+      ends = J .ends;
+      join = λ a b. h (J .join a b);
+      reads = λ s. e s ∙ ap (map h) (J .reads s) ∙ go (P s);
+      writes = λ a b. J .writes a b ∙ ef (J .join a b);
+      draws = λ a b. J .draws a b ∙ eg (J .join a b);
+    }
   where
-    in-it : (a : A) (m : Parsed B) → map h (bind m (λ b t. got (a, b) t)) ≡ map (λ b. h (a, b)) m
-    in-it a fail = refl
-    in-it a (got b t) = refl
-
-    go : (m : Parsed A) → map h (bind m (λ a r. bind (G .parse r) (λ b t. got (a, b) t))) ≡ bind m (λ a r. map (λ b. h (a, b)) (G .parse r))
+    go : (m : Parsed A) → map h (bind m (λ a r. map (J .join a) (Q r))) ≡ bind m (λ a r. map (λ b. h (J .join a b)) (Q r))
     go fail = refl
-    go (got a r) = in-it a (G .parse r)
+    go (got a r) = map-map h (J .join a) (Q r)
 
--- with no refusals: what most types are
+-- a pair, with no refusals; and what is made of one: what most types are
 module _ {A B : Type 0} (F : Format A) (f : A → List ℕ) (G : Format B) (f′ : B → List ℕ) where
+  pub pair-joins : Joins (F .parse) f (λ a. 9) (G .parse) f′ (λ b. 9) (pair F G .parse) (λ p. f (p .0) ++ f′ (p .1)) (λ c. 9)
+  pair-joins = record { ends = leaves F; join = λ a b. (a, b); reads = λ s. go (F .parse s); writes = λ a b. refl; draws = λ a b. refl }
+    where
+      in-it : (a : A) (m : Parsed B) → bind {B = A × B} m (λ b t. got (a, b) t) ≡ map {B = A × B} (λ b. (a, b)) m
+      in-it a fail = refl
+      in-it a (got b t) = refl
+
+      go : (m : Parsed A) → bind {B = A × B} m (λ a r. bind (G .parse r) (λ b t. got (a, b) t)) ≡ bind {B = A × B} m (λ a r. map (λ b. (a, b)) (G .parse r))
+      go fail = refl
+      go (got a r) = in-it a (G .parse r)
+
   pub joins : {C : Type 0} (X : Format C) (f″ : C → List ℕ) (h : A × B → C) → ((s : List ℕ) → X .parse s ≡ map h (pair F G .parse s))
       → ((a : A) (b : B) → f a ++ f′ b ≡ f″ (h (a, b))) → Joins (F .parse) f (λ a. 9) (G .parse) f′ (λ b. 9) (X .parse) f″ (λ c. 9)
-  joins X f″ h e w = record { ends = leaves F; join = λ a b. h (a, b); reads = λ s. e s ∙ pair-reads F G h s; writes = w; draws = λ a b. refl }
-
-  same : (m : Parsed (A × B)) → m ≡ map (λ p. p) m
-  same fail = refl
-  same (got p r) = refl
-
-  pub pair-joins : Joins (F .parse) f (λ a. 9) (G .parse) f′ (λ b. 9) (pair F G .parse) (λ p. f (p .0) ++ f′ (p .1)) (λ c. 9)
-  pair-joins = joins (pair F G) (λ p. f (p .0) ++ f′ (p .1)) (λ p. p) (λ s. same (pair F G .parse s)) (λ a b. refl)
+  joins X f″ h e w =
+      joins-map (F .parse) f (λ a. 9) (G .parse) f′ (λ b. 9) (pair F G .parse) (λ p. f (p .0) ++ f′ (p .1)) (λ c. 9) (X .parse) f″ (λ c. 9) h e (λ p. w (p .0) (p .1)) (λ p. refl)
+      pair-joins
 
 -- a value that is there, and one whose format depends on it: pre was appended of the first, and a walk over the second is one over both
 module _ {A : Type 0} {B : A → Type 0} (F : Format A) (G : (a : A) → Format (B a)) where

@@ -41,12 +41,20 @@ module _ {A : Type 0} (f : A → List ℕ) (g : A → ℕ) (w old : List ℕ) (s
       let ue : h .0 ≡ u = cc in
       record { value = a; rest = t; is = refl; place = pe; adds = subst (λ (v : Done). Adds (f a) (g a) old s new v) ue (h .2) }
 
+-- how a walk meets its contract: nothing was found, or a value was
+module _ {A : Type 0} (f : A → List ℕ) (g : A → ℕ) (w : List ℕ) (m : Parsed A) (old : List ℕ) (s : Done) (new : List ℕ) where
+  pub walked-none : m ≡ fail → Walked f g w m old s new walks.No
+  walked-none e = rw e refl
+
+  pub walked-is : (a : A) (p : ℕ) (u : Done) → m ≡ got a (drop p w) → p ≤ length w → Adds (f a) (g a) old s new u → Walked f g w m old s new (walks.Got p u)
+  walked-is a p u e h d = rw e (u, rw (place-at w p h), d)
+
 module _ {A : Type 0} (W : Format A) (f : A → List ℕ) (g : A → ℕ) (w : List ℕ) (at : ℕ) (old : List ℕ) (s : Done) (new : List ℕ) where
   pub walks-no : W .parse (drop at w) ≡ fail → Walks W f g w at old s new walks.No
-  walks-no e = rw e refl
+  walks-no e = walked-none f g w (W .parse (drop at w)) old s new e
 
   pub walks-got : (a : A) (p : ℕ) (u : Done) → W .parse (drop at w) ≡ got a (drop p w) → p ≤ length w → Adds (f a) (g a) old s new u → Walks W f g w at old s new (walks.Got p u)
-  walks-got a p u e h d = rw e (u, rw (place-at w p h), d)
+  walks-got a p u e h d = walked-is f g w (W .parse (drop at w)) old s new a p u e h d
 
   pub no-walks : (r : Walk) → Walks W f g w at old s new r → r ≡ walks.No → W .parse (drop at w) ≡ fail
   no-walks r h e = walked-no f g w old s new r (W .parse (drop at w)) h e
@@ -76,11 +84,17 @@ pub walked-map : {A B : Type 0} (f : A → List ℕ) (g : A → ℕ) (f′ : B �
 walked-map f g f′ g′ h pre l w fail old s cur t new r ef eg a x = x
 walked-map f g f′ g′ h pre l w (got v q) old s cur t new r ef eg a x = (x .0, x .1, adds-eq (ef v q refl) (eg v) (adds-seq a (x .2)))
 
+pub walked-as : {A B : Type 0} (f : A → List ℕ) (g : A → ℕ) (f′ : B → List ℕ) (g′ : B → ℕ) (h : A → B) (pre : List ℕ) (l : ℕ) (w : List ℕ) (m : Parsed A) (n : Parsed B)
+    (old : List ℕ) (s : Done) (cur : List ℕ) (t : Done) (new : List ℕ) (r : Walk) → n ≡ map h m
+    → ((a : A) (q : List ℕ) → m ≡ got a q → pre ++ f a ≡ f′ (h a)) → ((a : A) → min l (g a) ≡ g′ (h a))
+    → Adds pre l old s cur t → Walked f g w m cur t new r → Walked f′ g′ w n old s new r
+walked-as {A} {B} f g f′ g′ h pre l w m n old s cur t new r e ef eg a x =
+    subst (λ (k : Parsed B). Walked f′ g′ w k old s new r) (sym e) (walked-map f g f′ g′ h pre l w m old s cur t new r ef eg a x)
+
 -- a walk whose first part is done already: pre was appended, and what is left is another walk's
 pub walks-tail : {A B : Type 0} (W : Format A) (f : A → List ℕ) (g : A → ℕ) (X : Format B) (f′ : B → List ℕ) (g′ : B → ℕ) (h : A → B) (pre : List ℕ) (l : ℕ) (w : List ℕ) (at at′ : ℕ)
     (old : List ℕ) (s : Done) (cur : List ℕ) (t : Done) (new : List ℕ) (r : Walk)
     → X .parse (drop at′ w) ≡ map h (W .parse (drop at w)) → ((a : A) → pre ++ f a ≡ f′ (h a)) → ((a : A) → min l (g a) ≡ g′ (h a))
     → Adds pre l old s cur t → Walks W f g w at cur t new r → Walks X f′ g′ w at′ old s new r
-walks-tail {A} {B} W f g X f′ g′ h pre l w at at′ old s cur t new r e ef eg a x =
-    subst (λ (m : Parsed B). Walked f′ g′ w m old s new r) (sym e)
-    (walked-map f g f′ g′ h pre l w (W .parse (drop at w)) old s cur t new r (λ v q p. ef v) eg a x)
+walks-tail W f g X f′ g′ h pre l w at at′ old s cur t new r e ef eg a x =
+    walked-as f g f′ g′ h pre l w (W .parse (drop at w)) (X .parse (drop at′ w)) old s cur t new r e (λ v q p. ef v) eg a x

@@ -50,8 +50,11 @@ bodyWords array = fieldWords
 bodyWords struct = listWords Field
 bodyWords cont = word
 
+abbrev pub kindWords : Format Kind
+kindWords = table 4 kindWord kinds kind-word-small kind-word-full
+
 abbrev pub innerWords : Format Inner
-innerWords = dep (table 4 kindWord kinds kind-word-small kind-word-full) bodyWords
+innerWords = dep kindWords bodyWords
 
 -- ---- bytes: func 60 params results, array 5E field, struct 5F fields, cont 5D and signed index
 
@@ -70,8 +73,11 @@ bodyBytes array = fieldBytes
 bodyBytes struct = listBytes Field
 bodyBytes cont = index
 
+abbrev pub kindBytes : Format Kind
+kindBytes = table 256 kindByte kinds kind-byte-small kind-byte-full
+
 abbrev pub innerBytes : Format Inner
-innerBytes = dep (table 256 kindByte kinds kind-byte-small kind-byte-full) bodyBytes
+innerBytes = dep kindBytes bodyBytes
 
 pub heads-inner : (p : ℕ → Bool) (v : Bool) → ((k : Kind) → p (kindByte k) ≡ v) → Heads innerBytes p v
-heads-inner p v h = heads-dep (table 256 kindByte kinds kind-byte-small kind-byte-full) bodyBytes p v (heads-code kindByte p v h)
+heads-inner p v h = heads-dep kindBytes bodyBytes p v (heads-code kindByte p v h)

@@ -5,6 +5,7 @@ use mathlib.Core.Logic.{_⊎_, inl, inr}
 use mathlib.Core.Bool.{Bool, true, false}
 use mathlib.Core.List.{List}
 use Prim.Native.Nat.{ℕ, _<_}
+use native.Mathlib.Omega.{arith}
 use lib.ListN.{length}
 use Rattle.format.specs.Format.{Format}
 use Rattle.format.specs.Basic.{tag}
@@ -61,5 +62,8 @@ abbrev pub groupBytes : Format RecGroup
 groupBytes = iso (alt (is 0x4E) (tag 0x4E manyBytes) subBytes (heads-tag 0x4E manyBytes (is 0x4E) true refl) sub-no-4E) sideOf ofSide of-side side-of
 
 -- a subtype takes a word, and a byte, at least
+pub sub-words-long : (s : SubType) → subWords .Ok s → 0 < length (subWords .print s)
+sub-words-long s ok = omega arith
+
 pub sub-bytes-long : (s : SubType) → subBytes .Ok s → 0 < length (subBytes .print s)
 sub-bytes-long = heads-long subBytes (is 0x4E) false sub-no-4E

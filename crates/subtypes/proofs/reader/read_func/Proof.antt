@@ -1,51 +1,34 @@
+-- `subtypes::reader::read_func` meets its contract: the parameters, and then the results. Assumes nothing.
+use denote.Ref.{now}
+use Rattle.format.specs.Sequence.{joins-no, joins-got, pair-joins}
+use Rattle.lists.specs.Member.{listWords, listBytes}
+use Rattle.lists.specs.declared.Member.the-variants.{Val}
 use borrow.Author.Needs.{needs}
 use Rattle.subtypes.proofs.reader.read_func.Statement.{statement}
 use Rattle.subtypes.proofs.reader.read_func.Tie as tie
-use Rattle.subtypes.proofs.reader.read_func.Reads as reads
-use Rattle.subtypes.proofs.reader.read_func.Lts as lts
-use Rattle.lists.proofs.read_list.Reads as read-list-reads
 
--- src/reader.rt:30:27
-read-list-requires : tie.Need-read-list-requires
-read-list-requires c κs = search needs
-
--- src/reader.rt:30:19
-enum-known-p : tie.Need-enum-known-p
-enum-known-p c = search needs
-
--- src/reader.rt:31:9
-enum-told : tie.Need-enum-told
-enum-told c = search needs
-
--- src/reader.rt:31:9
-same-length : tie.Need-same-length
-same-length c = search needs
-
--- src/reader.rt:31:9
 returns : tie.Need-returns
-returns c = ?
+returns c =
+    let a = c .before .before .before .before .before .before .before .before .args in
+    joins-no _ _ _ _ _ _ _ _ _ (pair-joins (listBytes Val) (listWords Val .print) (listBytes Val) (listWords Val .print)) (now (a .b)) (a .at) (now (a .out)) (a .s) _ _ (c .before .before .before .before .read-list .ensures) _
+    (c .enum-told .given .1)
 
--- src/reader.rt:33:5
-read-list-requires-2 : tie.Need-read-list-requires-2
-read-list-requires-2 c κs = search needs
-
--- src/reader.rt:27:1
-same-length-2 : tie.Need-same-length-2
-same-length-2 c = search needs
-
--- src/reader.rt:27:1
 returns-2 : tie.Need-returns-2
-returns-2 c = ?
+returns-2 c =
+    let a = c .before .before .before .before .before .before .before .before .before .before .before .before .before .args in
+    let v = c .before .before .before .before .before .p .given in
+    joins-got _ _ _ _ _ _ _ _ _ (pair-joins (listBytes Val) (listWords Val .print) (listBytes Val) (listWords Val .print)) (now (a .b)) (a .at) (now (a .out)) (a .s) _ _ (c .before .before .before .before .before .before .before .before .before .read-list .ensures) _
+    (v .0 .0) (v .0 .1 .0) _ (v .1) (c .before .before .read-list2 .ensures)
 
 pub read-func-spec : {M : Type 1} → statement M
 read-func-spec =
     tie.close
     (tie.spec
-    read-list-requires
-    enum-known-p
-    enum-told
-    same-length
+    (λ c κs. search needs)
+    (λ c. search needs)
+    (λ c. search needs)
+    (λ c. search needs)
     returns
-    read-list-requires-2
-    same-length-2
+    (λ c κs. search needs)
+    (λ c. search needs)
     returns-2)

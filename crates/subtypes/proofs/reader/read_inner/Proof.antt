@@ -1,130 +1,76 @@
+-- `subtypes::reader::read_inner` meets its contract: by its kind. Assumes nothing.
+use denote.Ref.{now}
+use mathlib.Core.Path.{refl}
+use mathlib.Core.List.{[], _∷_}
+use Prim.Native.Nat.{_+_}
+use Rattle.format.specs.Read.{drop-end, one-read}
+use Rattle.format.specs.Sequence.{walks-known}
+use Rattle.format.specs.Walk.{walks-no}
+use Rattle.subtypes.specs.Composite.{func, array, struct, cont, kindBytes, bodyWords, bodyBytes, innerWords, innerBytes}
+use Rattle.subtypes.proofs.Bytes.{no-kind}
 use borrow.Author.Needs.{needs}
 use Rattle.subtypes.proofs.reader.read_inner.Statement.{statement}
 use Rattle.subtypes.proofs.reader.read_inner.Tie as tie
-use Rattle.subtypes.proofs.reader.read_inner.Reads as reads
-use Rattle.subtypes.proofs.reader.read_inner.Lts as lts
-use Rattle.format.proofs.append_word.Reads as append-word-reads
-use Rattle.lists.proofs.read_list.Reads as read-list-reads
-use Rattle.subtypes.proofs.reader.read_cont.Reads as read-cont-reads
-use Rattle.subtypes.proofs.reader.read_func.Reads as read-func-reads
-use Rattle.types.proofs.read_field.Reads as read-field-reads
 
--- src/reader.rt:50:9
 returns : tie.Need-returns
-returns c = ?
+returns c =
+    let a = c .before .before .before .args in
+    walks-no innerBytes (innerWords .print) (λ x. 9) (now (a .b)) (a .at) (now (a .out)) (a .s) _ (rw (drop-end (now (a .b)) (a .at) (c .if1 .taken)))
 
--- src/reader.rt:52:13
-shared-slice-read-k : tie.Need-shared-slice-read-k
-shared-slice-read-k c = search needs
-
--- src/reader.rt:54:13
-append-word-requires : tie.Need-append-word-requires
-append-word-requires c κs = search needs
-
--- src/reader.rt:55:29
-add-read-func : tie.Need-add-read-func
-add-read-func c = search needs
-
--- src/reader.rt:55:9
-read-func-requires : tie.Need-read-func-requires
-read-func-requires c κs = search needs
-
--- src/reader.rt:55:9
-same-length : tie.Need-same-length
-same-length c = search needs
-
--- src/reader.rt:55:9
 returns-2 : tie.Need-returns-2
-returns-2 c = ?
+returns-2 c =
+    let a = c .before .before .before .before .before .before .before .before .before .before .before .before .before .args in
+    walks-known kindBytes bodyBytes (innerWords .print) func (bodyWords func .print) (0 ∷ []) (now (a .b)) (a .at) (a .at + 1) (now (a .out)) (a .s) _ _ _ _
+    (one-read kindBytes func 0x60 tt refl (now (a .b)) (a .at) (c .before .before .before .before .before .before .before .before .before .before .if1 .left) (c .before .before .before .before .before .before .before .before .if2 .taken)) (λ x q e. refl) (c .before .before .before .before .before .before .append-word .ensures) (c .before .before .read-func .ensures)
 
--- src/reader.rt:58:13
-append-word-requires-2 : tie.Need-append-word-requires-2
-append-word-requires-2 c κs = search needs
-
--- src/reader.rt:59:30
-add-read-field : tie.Need-add-read-field
-add-read-field c = search needs
-
--- src/reader.rt:59:9
-read-field-requires : tie.Need-read-field-requires
-read-field-requires c κs = search needs
-
--- src/reader.rt:59:9
-same-length-2 : tie.Need-same-length-2
-same-length-2 c = search needs
-
--- src/reader.rt:59:9
 returns-3 : tie.Need-returns-3
-returns-3 c = ?
+returns-3 c =
+    let a = c .before .before .before .before .before .before .before .before .before .before .before .before .before .before .args in
+    walks-known kindBytes bodyBytes (innerWords .print) array (bodyWords array .print) (1 ∷ []) (now (a .b)) (a .at) (a .at + 1) (now (a .out)) (a .s) _ _ _ _
+    (one-read kindBytes array 0x5E tt refl (now (a .b)) (a .at) (c .before .before .before .before .before .before .before .before .before .before .before .if1 .left) (c .before .before .before .before .before .before .before .before .if3 .taken)) (λ x q e. refl) (c .before .before .before .before .before .before .append-word2 .ensures) (c .before .before .read-field .ensures)
 
--- src/reader.rt:62:13
-append-word-requires-3 : tie.Need-append-word-requires-3
-append-word-requires-3 c κs = search needs
-
--- src/reader.rt:63:44
-add-read-list : tie.Need-add-read-list
-add-read-list c = search needs
-
--- src/reader.rt:63:9
-read-list-requires : tie.Need-read-list-requires
-read-list-requires c κs = search needs
-
--- src/reader.rt:63:9
-same-length-3 : tie.Need-same-length-3
-same-length-3 c = search needs
-
--- src/reader.rt:63:9
 returns-4 : tie.Need-returns-4
-returns-4 c = ?
+returns-4 c =
+    let a = c .before .before .before .before .before .before .before .before .before .before .before .before .before .before .before .args in
+    walks-known kindBytes bodyBytes (innerWords .print) struct (bodyWords struct .print) (2 ∷ []) (now (a .b)) (a .at) (a .at + 1) (now (a .out)) (a .s) _ _ _ _
+    (one-read kindBytes struct 0x5F tt refl (now (a .b)) (a .at) (c .before .before .before .before .before .before .before .before .before .before .before .before .if1 .left) (c .before .before .before .before .before .before .before .before .if4 .taken)) (λ x q e. refl) (c .before .before .before .before .before .before .append-word3 .ensures) (c .before .before .read-list .ensures)
 
--- src/reader.rt:66:13
-append-word-requires-4 : tie.Need-append-word-requires-4
-append-word-requires-4 c κs = search needs
-
--- src/reader.rt:67:29
-add-read-cont : tie.Need-add-read-cont
-add-read-cont c = search needs
-
--- src/reader.rt:67:9
-read-cont-requires : tie.Need-read-cont-requires
-read-cont-requires c κs = search needs
-
--- src/reader.rt:67:9
-same-length-4 : tie.Need-same-length-4
-same-length-4 c = search needs
-
--- src/reader.rt:67:9
 returns-5 : tie.Need-returns-5
-returns-5 c = ?
+returns-5 c =
+    let a = c .before .before .before .before .before .before .before .before .before .before .before .before .before .before .before .before .args in
+    walks-known kindBytes bodyBytes (innerWords .print) cont (bodyWords cont .print) (3 ∷ []) (now (a .b)) (a .at) (a .at + 1) (now (a .out)) (a .s) _ _ _ _
+    (one-read kindBytes cont 0x5D tt refl (now (a .b)) (a .at) (c .before .before .before .before .before .before .before .before .before .before .before .before .before .if1 .left) (c .before .before .before .before .before .before .before .before .if5 .taken)) (λ x q e. refl) (c .before .before .before .before .before .before .append-word4 .ensures) (c .before .before .read-cont .ensures)
 
--- src/reader.rt:46:1
 returns-6 : tie.Need-returns-6
-returns-6 c = ?
+returns-6 c =
+    let a = c .before .before .before .before .before .before .before .before .args in
+    walks-no innerBytes (innerWords .print) (λ x. 9) (now (a .b)) (a .at) (now (a .out)) (a .s) _
+    (rw (no-kind (now (a .b)) (a .at) (c .before .before .before .before .before .if1 .left) (c .before .before .before .if2 .left) (c .before .before .if3 .left) (c .before .if4 .left) (c .if5 .left)))
 
 pub read-inner-spec : {M : Type 1} → statement M
 read-inner-spec =
     tie.close
     (tie.spec
     returns
-    shared-slice-read-k
-    append-word-requires
-    add-read-func
-    read-func-requires
-    same-length
+    (λ c. search needs)
+    (λ c κs. search needs)
+    (λ c. search needs)
+    (λ c κs. search needs)
+    (λ c. search needs)
     returns-2
-    append-word-requires-2
-    add-read-field
-    read-field-requires
-    same-length-2
+    (λ c κs. search needs)
+    (λ c. search needs)
+    (λ c κs. search needs)
+    (λ c. search needs)
     returns-3
-    append-word-requires-3
-    add-read-list
-    read-list-requires
-    same-length-3
+    (λ c κs. search needs)
+    (λ c. search needs)
+    (λ c κs. search needs)
+    (λ c. search needs)
     returns-4
-    append-word-requires-4
-    add-read-cont
-    read-cont-requires
-    same-length-4
+    (λ c κs. search needs)
+    (λ c. search needs)
+    (λ c κs. search needs)
+    (λ c. search needs)
     returns-5
     returns-6)

@@ -1,67 +1,50 @@
+-- `subtypes::reader::read_option` meets its contract. Assumes nothing.
+use denote.Ref.{now}
+use mathlib.Core.Path.{refl}
+use mathlib.Core.List.{[], _∷_}
+use mathlib.Core.Option.{none, some}
+use Prim.Native.Nat.{_+_}
+use native.Mathlib.Omega.{arith}
+use lib.ListN.{drop}
+use Rattle.format.specs.Alternatives.{opt}
+use Rattle.format.specs.Count.{adds-seq}
+use Rattle.format.specs.Leads.{option}
+use Rattle.format.specs.Read.{drop-end}
+use Rattle.format.specs.Walk.{walked-none, walked-is, walked-as}
+use Rattle.leb128.specs.Formats.{u32}
+use Rattle.texts.specs.Words.{word}
+use Rattle.subtypes.proofs.Bytes.{option-read, option-not}
 use borrow.Author.Needs.{needs}
 use Rattle.subtypes.proofs.reader.read_option.Statement.{statement}
 use Rattle.subtypes.proofs.reader.read_option.Tie as tie
-use Rattle.subtypes.proofs.reader.read_option.Reads as reads
-use Rattle.subtypes.proofs.reader.read_option.Lts as lts
-use Rattle.format.proofs.append_word.Reads as append-word-reads
-use Rattle.lists.proofs.read_index.Reads as read-index-reads
 
--- src/reader.rt:77:9
 returns : tie.Need-returns
-returns c = ?
+returns c = let a = c .before .before .before .args in walked-none (opt word .print) (λ x. 9) (now (a .b)) (option (a .k) u32 .parse (drop (a .at) (now (a .b)))) (now (a .out)) (a .s) _ (rw (drop-end (now (a .b)) (a .at) (c .if1 .taken)))
 
--- src/reader.rt:79:8
-shared-slice-read-if2 : tie.Need-shared-slice-read-if2
-shared-slice-read-if2 c = search needs
-
--- src/reader.rt:80:13
-append-word-requires : tie.Need-append-word-requires
-append-word-requires c κs = search needs
-
--- src/reader.rt:81:30
-add-read-index : tie.Need-add-read-index
-add-read-index c = search needs
-
--- src/reader.rt:81:9
-read-index-requires : tie.Need-read-index-requires
-read-index-requires c κs = search needs
-
--- src/reader.rt:81:9
-same-length : tie.Need-same-length
-same-length c = search needs
-
--- src/reader.rt:81:9
 returns-2 : tie.Need-returns-2
-returns-2 c = ?
+returns-2 c =
+    let a = c .before .before .before .before .before .before .before .before .before .before .before .before .before .args in
+    walked-as (word .print) (λ x. 9) (opt word .print) (λ x. 9) some (1 ∷ []) 9 (now (a .b)) (u32 .parse (drop (a .at + 1) (now (a .b)))) _ (now (a .out)) (a .s) _ _ _ _
+    (option-read (now (a .b)) (a .at) (c .before .before .before .before .before .before .before .before .before .before .if1 .left) (a .k) (c .before .before .before .before .before .before .before .before .if2 .taken)) (λ x q e. refl) (λ x. refl) (c .before .before .before .before .before .before .append-word .ensures) (c .before .before .read-index .ensures)
 
--- src/reader.rt:83:9
-append-word-requires-2 : tie.Need-append-word-requires-2
-append-word-requires-2 c κs = search needs
-
--- src/reader.rt:84:19
-append-word-requires-3 : tie.Need-append-word-requires-3
-append-word-requires-3 c κs = search needs
-
--- src/reader.rt:73:1
-same-length-2 : tie.Need-same-length-2
-same-length-2 c = search needs
-
--- src/reader.rt:73:1
 returns-3 : tie.Need-returns-3
-returns-3 c = ?
+returns-3 c =
+    let a = c .before .before .before .before .before .before .before .before .before .before .before .before .before .args in
+    walked-is (opt word .print) (λ x. 9) (now (a .b)) _ (now (a .out)) (a .s) _ none (a .at) _ (option-not (now (a .b)) (a .at) (c .before .before .before .before .before .before .before .before .before .before .if1 .left) (a .k) (c .before .before .before .before .before .before .before .before .if2 .left)) (omega (arith, c .before .before .before .before .before .before .before .before .before .before .if1 .left))
+    (adds-seq (c .before .before .before .before .before .before .append-word2 .ensures) (c .before .before .append-word3 .ensures))
 
 pub read-option-spec : {M : Type 1} → statement M
 read-option-spec =
     tie.close
     (tie.spec
     returns
-    shared-slice-read-if2
-    append-word-requires
-    add-read-index
-    read-index-requires
-    same-length
+    (λ c. search needs)
+    (λ c κs. search needs)
+    (λ c. search needs)
+    (λ c κs. search needs)
+    (λ c. search needs)
     returns-2
-    append-word-requires-2
-    append-word-requires-3
-    same-length-2
+    (λ c κs. search needs)
+    (λ c κs. search needs)
+    (λ c. search needs)
     returns-3)

@@ -1,56 +1,41 @@
+-- `subtypes::reader::read_shared` meets its contract. Assumes nothing.
+use denote.Ref.{now}
+use mathlib.Core.Bool.{true, false}
+use Prim.Native.Nat.{_+_}
+use native.Mathlib.Omega.{arith}
+use Rattle.format.specs.Basic.{flag}
+use lib.ListN.{drop}
+use Rattle.format.specs.Leads.{mark}
+use Rattle.format.specs.Read.{drop-end}
+use Rattle.format.specs.Walk.{walked-none, walked-is}
+use Rattle.subtypes.proofs.Bytes.{mark-read, mark-not}
 use borrow.Author.Needs.{needs}
 use Rattle.subtypes.proofs.reader.read_shared.Statement.{statement}
 use Rattle.subtypes.proofs.reader.read_shared.Tie as tie
-use Rattle.subtypes.proofs.reader.read_shared.Reads as reads
-use Rattle.subtypes.proofs.reader.read_shared.Lts as lts
-use Rattle.format.proofs.append_word.Reads as append-word-reads
 
--- src/reader.rt:103:9
 returns : tie.Need-returns
-returns c = ?
+returns c = let a = c .before .before .before .args in walked-none (flag .print) (λ x. 9) (now (a .b)) (mark 0x65 .parse (drop (a .at) (now (a .b)))) (now (a .out)) (a .s) _ (rw (drop-end (now (a .b)) (a .at) (c .if1 .taken)))
 
--- src/reader.rt:105:8
-shared-slice-read-if2 : tie.Need-shared-slice-read-if2
-shared-slice-read-if2 c = search needs
-
--- src/reader.rt:106:26
-add-t9 : tie.Need-add-t9
-add-t9 c = search needs
-
--- src/reader.rt:106:34
-append-word-requires : tie.Need-append-word-requires
-append-word-requires c κs = search needs
-
--- src/reader.rt:106:9
-same-length : tie.Need-same-length
-same-length c = search needs
-
--- src/reader.rt:106:9
 returns-2 : tie.Need-returns-2
-returns-2 c = ?
+returns-2 c =
+    let a = c .before .before .before .before .before .before .before .before .before .args in
+    walked-is (flag .print) (λ x. 9) (now (a .b)) _ (now (a .out)) (a .s) _ true (a .at + 1) _ (mark-read (now (a .b)) (a .at) (c .before .before .before .before .before .before .if1 .left) 0x65 (c .before .before .before .before .if2 .taken)) (omega (arith, c .before .before .before .before .before .before .if1 .left)) (c .before .before .append-word .ensures)
 
--- src/reader.rt:108:19
-append-word-requires-2 : tie.Need-append-word-requires-2
-append-word-requires-2 c κs = search needs
-
--- src/reader.rt:99:1
-same-length-2 : tie.Need-same-length-2
-same-length-2 c = search needs
-
--- src/reader.rt:99:1
 returns-3 : tie.Need-returns-3
-returns-3 c = ?
+returns-3 c =
+    let a = c .before .before .before .before .before .before .before .before .before .args in
+    walked-is (flag .print) (λ x. 9) (now (a .b)) _ (now (a .out)) (a .s) _ false (a .at) _ (mark-not (now (a .b)) (a .at) (c .before .before .before .before .before .before .if1 .left) 0x65 (c .before .before .before .before .if2 .left)) (omega (arith, c .before .before .before .before .before .before .if1 .left)) (c .before .before .append-word2 .ensures)
 
 pub read-shared-spec : {M : Type 1} → statement M
 read-shared-spec =
     tie.close
     (tie.spec
     returns
-    shared-slice-read-if2
-    add-t9
-    append-word-requires
-    same-length
+    (λ c. search needs)
+    (λ c. search needs)
+    (λ c κs. search needs)
+    (λ c. search needs)
     returns-2
-    append-word-requires-2
-    same-length-2
+    (λ c κs. search needs)
+    (λ c. search needs)
     returns-3)

@@ -1,47 +1,40 @@
+-- `subtypes::reader::read_some` meets its contract. Assumes nothing.
+use denote.Ref.{now}
+use mathlib.Core.Path.{refl, _∙_}
+use mathlib.Core.List.{[], _∷_}
+use lib.ListN.{drop}
+use native.Mathlib.Omega.{arith}
+use Rattle.format.specs.Parsed.{map-same}
+use Rattle.format.specs.Read.{too-few}
+use Rattle.format.specs.Walk.{walks-no, walked-as}
+use Rattle.lists.specs.Member.{listWords, listBytes}
+use Rattle.lists.specs.declared.Member.the-variants.{Index}
+use Rattle.subtypes.specs.SubType.{someSupers}
+use Rattle.subtypes.proofs.Bytes.{some-long, some-read, none-there}
 use borrow.Author.Needs.{needs}
 use Rattle.subtypes.proofs.reader.read_some.Statement.{statement}
 use Rattle.subtypes.proofs.reader.read_some.Tie as tie
-use Rattle.subtypes.proofs.reader.read_some.Reads as reads
-use Rattle.subtypes.proofs.reader.read_some.Lts as lts
-use Rattle.format.proofs.append_word.Reads as append-word-reads
-use Rattle.lists.proofs.read_list.Reads as read-list-reads
 
--- src/reader.rt:116:9
 returns : tie.Need-returns
-returns c = ?
+returns c = let a = c .before .before .before .args in walks-no someSupers (λ xs. 1 ∷ listWords Index .print xs) (λ x. 9) (now (a .b)) (a .at) (now (a .out)) (a .s) _ (too-few someSupers 1 (omega arith) some-long (now (a .b)) (a .at) (omega (arith, c .if1 .taken)))
 
--- src/reader.rt:118:8
-shared-slice-read-if2 : tie.Need-shared-slice-read-if2
-shared-slice-read-if2 c = search needs
-
--- src/reader.rt:119:9
 returns-2 : tie.Need-returns-2
-returns-2 c = ?
+returns-2 c = let a = c .before .before .before .before .before .args in walks-no someSupers (λ xs. 1 ∷ listWords Index .print xs) (λ x. 9) (now (a .b)) (a .at) (now (a .out)) (a .s) _ (none-there (now (a .b)) (a .at) (c .before .before .if1 .left) (c .if2 .taken))
 
--- src/reader.rt:121:9
-append-word-requires : tie.Need-append-word-requires
-append-word-requires c κs = search needs
-
--- src/reader.rt:122:5
-read-list-requires : tie.Need-read-list-requires
-read-list-requires c κs = search needs
-
--- src/reader.rt:112:1
-same-length : tie.Need-same-length
-same-length c = search needs
-
--- src/reader.rt:112:1
 returns-3 : tie.Need-returns-3
-returns-3 c = ?
+returns-3 c =
+    let a = c .before .before .before .before .before .before .before .before .before .before .before .before .before .args in
+    walked-as (listWords Index .print) (λ x. 9) (λ xs. 1 ∷ listWords Index .print xs) (λ x. 9) (λ xs. xs) (1 ∷ []) 9 (now (a .b)) (listBytes Index .parse (drop (a .at) (now (a .b)))) _ (now (a .out)) (a .s) _ _ _ _
+    (some-read (now (a .b)) (a .at) (c .before .before .before .before .before .before .before .before .before .before .if1 .left) (c .before .before .before .before .before .before .before .before .if2 .left) ∙ map-same (listBytes Index .parse (drop (a .at) (now (a .b))))) (λ x q e. refl) (λ x. refl) (c .before .before .before .before .before .before .append-word .ensures) (c .before .before .read-list .ensures)
 
 pub read-some-spec : {M : Type 1} → statement M
 read-some-spec =
     tie.close
     (tie.spec
     returns
-    shared-slice-read-if2
+    (λ c. search needs)
     returns-2
-    append-word-requires
-    read-list-requires
-    same-length
+    (λ c κs. search needs)
+    (λ c κs. search needs)
+    (λ c. search needs)
     returns-3)

@@ -1,78 +1,53 @@
+-- `subtypes::reader::read_sub` meets its contract: supertypes, shared or not, and the rest. Assumes nothing.
+use denote.Ref.{now}
+use mathlib.Core.Path.{refl}
+use Rattle.format.specs.Basic.{flag}
+use Rattle.format.specs.Combine.{pair}
+use Rattle.format.specs.Leads.{mark, led-joins, led-made}
+use Rattle.format.specs.Sequence.{joins-no, joins-got}
+use Rattle.subtypes.specs.SubType.{ofParts, supersWords, supersLead, sharedBytes, shared-no-prefix, describedWords, describedBytes, described-no-65, subWords, subBytes}
 use borrow.Author.Needs.{needs}
 use Rattle.subtypes.proofs.reader.read_sub.Statement.{statement}
 use Rattle.subtypes.proofs.reader.read_sub.Tie as tie
-use Rattle.subtypes.proofs.reader.read_sub.Reads as reads
-use Rattle.subtypes.proofs.reader.read_sub.Lts as lts
-use Rattle.subtypes.proofs.reader.read_described.Reads as read-described-reads
-use Rattle.subtypes.proofs.reader.read_shared.Reads as read-shared-reads
-use Rattle.subtypes.proofs.reader.read_supers.Reads as read-supers-reads
 
--- src/reader.rt:146:27
-read-supers-requires : tie.Need-read-supers-requires
-read-supers-requires c κs = search needs
-
--- src/reader.rt:146:19
-enum-known-p : tie.Need-enum-known-p
-enum-known-p c = search needs
-
--- src/reader.rt:147:9
-enum-told : tie.Need-enum-told
-enum-told c = search needs
-
--- src/reader.rt:147:9
-same-length : tie.Need-same-length
-same-length c = search needs
-
--- src/reader.rt:147:9
 returns : tie.Need-returns
-returns c = ?
+returns c =
+    let a = c .before .before .before .before .before .before .before .before .args in
+    joins-no _ _ _ _ _ _ _ _ _ (led-made supersLead (supersWords .print) sharedBytes (pair flag describedWords .print) shared-no-prefix subBytes (subWords .print) ofParts (λ l. refl) (λ x y. refl)) (now (a .b)) (a .at) (now (a .out)) (a .s) _ _
+    (c .before .before .before .before .read-supers .ensures) _ (c .enum-told .given .1)
 
--- src/reader.rt:149:27
-read-shared-requires : tie.Need-read-shared-requires
-read-shared-requires c κs = search needs
-
--- src/reader.rt:149:19
-enum-known-q : tie.Need-enum-known-q
-enum-known-q c = search needs
-
--- src/reader.rt:150:9
-enum-told-2 : tie.Need-enum-told-2
-enum-told-2 c = search needs
-
--- src/reader.rt:150:9
-same-length-2 : tie.Need-same-length-2
-same-length-2 c = search needs
-
--- src/reader.rt:150:9
 returns-2 : tie.Need-returns-2
-returns-2 c = ?
+returns-2 c =
+    let a = c .before .before .before .before .before .before .before .before .before .before .before .before .before .before .before .args in
+    let v = c .before .before .before .before .before .before .before .p .given in
+    joins-got _ _ _ _ _ _ _ _ _ (led-made supersLead (supersWords .print) sharedBytes (pair flag describedWords .print) shared-no-prefix subBytes (subWords .print) ofParts (λ l. refl) (λ x y. refl)) (now (a .b)) (a .at) (now (a .out)) (a .s) _ _
+    (c .before .before .before .before .before .before .before .before .before .before .before .read-supers .ensures) _ (v .0 .0) (v .0 .1 .0) _ (v .1)
+    (joins-no _ _ _ _ _ _ _ _ _ (led-joins (mark 0x65) (flag .print) describedBytes (describedWords .print) described-no-65) (now (a .b)) (v .0 .0) _ (v .0 .1 .0) _ _ (c .before .before .before .before .read-shared .ensures) _ (c .enum-told2 .given .1))
 
--- src/reader.rt:152:5
-read-described-requires : tie.Need-read-described-requires
-read-described-requires c κs = search needs
-
--- src/reader.rt:143:1
-same-length-3 : tie.Need-same-length-3
-same-length-3 c = search needs
-
--- src/reader.rt:143:1
 returns-3 : tie.Need-returns-3
-returns-3 c = ?
+returns-3 c =
+    let a = c .before .before .before .before .before .before .before .before .before .before .before .before .before .before .before .before .before .before .before .before .args in
+    let v = c .before .before .before .before .before .before .before .before .before .before .before .before .p .given in
+    let q = c .before .before .before .before .before .q .given in
+    joins-got _ _ _ _ _ _ _ _ _ (led-made supersLead (supersWords .print) sharedBytes (pair flag describedWords .print) shared-no-prefix subBytes (subWords .print) ofParts (λ l. refl) (λ x y. refl)) (now (a .b)) (a .at) (now (a .out)) (a .s) _ _
+    (c .before .before .before .before .before .before .before .before .before .before .before .before .before .before .before .before .read-supers .ensures) _ (v .0 .0) (v .0 .1 .0) _ (v .1)
+    (joins-got _ _ _ _ _ _ _ _ _ (led-joins (mark 0x65) (flag .print) describedBytes (describedWords .print) described-no-65) (now (a .b)) (v .0 .0) _ (v .0 .1 .0) _ _ (c .before .before .before .before .before .before .before .before .before .read-shared .ensures) _ (q .0 .0) (q .0 .1 .0) _ (q .1)
+    (c .before .before .read-described .ensures))
 
 pub read-sub-spec : {M : Type 1} → statement M
 read-sub-spec =
     tie.close
     (tie.spec
-    read-supers-requires
-    enum-known-p
-    enum-told
-    same-length
+    (λ c κs. search needs)
+    (λ c. search needs)
+    (λ c. search needs)
+    (λ c. search needs)
     returns
-    read-shared-requires
-    enum-known-q
-    enum-told-2
-    same-length-2
+    (λ c κs. search needs)
+    (λ c. search needs)
+    (λ c. search needs)
+    (λ c. search needs)
     returns-2
-    read-described-requires
-    same-length-3
+    (λ c κs. search needs)
+    (λ c. search needs)
     returns-3)

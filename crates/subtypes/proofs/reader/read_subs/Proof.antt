@@ -1,58 +1,38 @@
+-- `subtypes::reader::read_subs` meets its contract: the loop has walked some subtypes, and the others are left. Assumes nothing.
+use denote.Ref.{now}
+use mathlib.Core.Path.{_∙_}
+use Rattle.format.specs.Loop.{Going, going-none, going-more, members-no, members-got}
+use Rattle.format.specs.Walk.{no-walks, got-walks}
+use Rattle.subtypes.specs.SubType.{subWords, subBytes}
+use borrow.Author.Needs.{needs}
 use Rattle.subtypes.proofs.reader.read_subs.Statement.{statement}
 use Rattle.subtypes.proofs.reader.read_subs.Tie as tie
-use Rattle.subtypes.proofs.reader.read_subs.Reads as reads
-use Rattle.subtypes.proofs.reader.read_subs.Lts as lts
-use Rattle.subtypes.proofs.reader.read_sub.Reads as read-sub-reads
 
 abbrev Inv-loop : tie.InvT-loop
-Inv-loop n b at out₀ t₀ p₀ left₀ out t p left = ?
+Inv-loop n b at out₀ t₀ p₀ left₀ out t p left = Going subBytes (λ k v. subWords .print v) (λ v. 9) b at n out₀ t₀ out t p left
 
 abbrev μ-loop : tie.MeasureT-loop
-μ-loop n b at out₀ t₀ p₀ left₀ out t p left = ?
+μ-loop n b at out₀ t₀ p₀ left₀ out t p left = left
 
--- src/reader.rt:163:5
 loop-holds : tie.Need-loop-holds Inv-loop μ-loop
-loop-holds c = ?
+loop-holds c = let a = c .before .before .args in going-none subBytes (λ k v. subWords .print v) (λ v. 9) (now (a .b)) (a .at) (a .n) (now (a .out)) (a .s) (c .before .before .pre)
 
--- src/reader.rt:164:31
-read-sub-requires : tie.Need-read-sub-requires Inv-loop μ-loop
-read-sub-requires c κs = ?
-
--- src/reader.rt:164:23
-enum-known-q : tie.Need-enum-known-q Inv-loop μ-loop
-enum-known-q c = ?
-
--- src/reader.rt:165:13
-enum-told : tie.Need-enum-told Inv-loop μ-loop
-enum-told c = ?
-
--- src/reader.rt:165:13
-same-length : tie.Need-same-length Inv-loop μ-loop
-same-length c = ?
-
--- src/reader.rt:165:13
 returns : tie.Need-returns Inv-loop μ-loop
-returns c = ?
+returns c =
+    let l = c .before .before .before .before .before .before .before .loop in
+    let x = c .before .before .before .before .read-sub in
+    members-no subBytes (subWords .print) (l .inv) _ (c .before .before .before .before .before .before .loop-test .taken)
+    (no-walks subBytes (subWords .print) (λ y. 9) (now (c .before .before .before .before .before .before .before .before .before .before .args .b)) (l .p) _ _ _ (x .result) (x .ensures) (c .enum-told .given .1))
 
--- src/reader.rt:169:16
-sub-left : tie.Need-sub-left Inv-loop μ-loop
-sub-left c = ?
-
--- src/reader.rt:163:5
-loop-less : tie.Need-loop-less Inv-loop μ-loop
-loop-less c = ?
-
--- src/reader.rt:163:5
 loop-again : tie.Need-loop-again Inv-loop μ-loop
-loop-again c = ?
+loop-again c =
+    let l = c .before .before .before .before .before .before .before .before .loop in
+    let x = c .before .before .before .before .before .read-sub in
+    going-more subBytes (λ k v. subWords .print v) (λ v. 9) (l .inv) (c .before .before .before .before .before .before .before .loop-test .taken)
+    (got-walks subBytes (subWords .print) (λ y. 9) (now (c .before .before .before .before .before .before .before .before .before .before .before .args .b)) (l .p) _ _ _ (x .result) _ _ (x .ensures) (c .before .q .given .1)) (x .kept .1 .1 .0)
 
--- src/reader.rt:156:1
-same-length-2 : tie.Need-same-length-2 Inv-loop μ-loop
-same-length-2 c = ?
-
--- src/reader.rt:156:1
 returns-2 : tie.Need-returns-2 Inv-loop μ-loop
-returns-2 c = ?
+returns-2 c = members-got subBytes (subWords .print) (c .before .loop .inv) (c .loop-test .left)
 
 pub read-subs-spec : {M : Type 1} → statement M
 read-subs-spec =
@@ -61,13 +41,13 @@ read-subs-spec =
     Inv-loop
     μ-loop
     loop-holds
-    read-sub-requires
-    enum-known-q
-    enum-told
-    same-length
+    (λ c κs. search needs)
+    (λ c. search needs)
+    (λ c. search needs)
+    (λ c. c .before .before .before .before .read-sub .kept .1 .1 .0 ∙ c .before .before .before .before .before .before .before .loop .inv .kept)
     returns
-    sub-left
-    loop-less
+    (λ c. search needs)
+    (λ c. search needs)
     loop-again
-    same-length-2
+    (λ c. c .before .loop .inv .kept)
     returns-2)

@@ -1,88 +1,59 @@
+-- `subtypes::reader::read_supers` meets its contract: by the first byte. Assumes nothing.
+use denote.Ref.{now}
+use mathlib.Core.Path.{refl}
+use mathlib.Core.Bool.{true, false}
+use mathlib.Core.List.{[], _∷_}
+use Prim.Native.Nat.{_+_}
+use native.Mathlib.Omega.{arith}
+use lib.ListN.{drop}
+use Rattle.format.specs.Count.{adds-nil, adds-seq}
+use Rattle.format.specs.Read.{drop-end}
+use Rattle.format.specs.Walk.{walked-none, walked-is, walked-as}
+use Rattle.lists.specs.Member.{listWords, listBytes}
+use Rattle.lists.specs.declared.Member.the-variants.{Index}
+use Rattle.subtypes.specs.SubType.{someSupers, supersWords, supersLead}
+use Rattle.subtypes.proofs.Bytes.{open-read, final-read, no-prefix}
 use borrow.Author.Needs.{needs}
 use Rattle.subtypes.proofs.reader.read_supers.Statement.{statement}
 use Rattle.subtypes.proofs.reader.read_supers.Tie as tie
-use Rattle.subtypes.proofs.reader.read_supers.Reads as reads
-use Rattle.subtypes.proofs.reader.read_supers.Lts as lts
-use Rattle.format.proofs.append_word.Reads as append-word-reads
-use Rattle.lists.proofs.read_list.Reads as read-list-reads
-use Rattle.subtypes.proofs.reader.read_some.Reads as read-some-reads
 
--- src/reader.rt:129:9
 returns : tie.Need-returns
-returns c = ?
+returns c = let a = c .before .before .before .args in walked-none (supersWords .print) (λ x. 9) (now (a .b)) (supersLead .parse (drop (a .at) (now (a .b)))) (now (a .out)) (a .s) _ (rw (drop-end (now (a .b)) (a .at) (c .if1 .taken)))
 
--- src/reader.rt:131:13
-shared-slice-read-x : tie.Need-shared-slice-read-x
-shared-slice-read-x c = search needs
-
--- src/reader.rt:133:13
-append-word-requires : tie.Need-append-word-requires
-append-word-requires c κs = search needs
-
--- src/reader.rt:134:44
-add-read-list : tie.Need-add-read-list
-add-read-list c = search needs
-
--- src/reader.rt:134:9
-read-list-requires : tie.Need-read-list-requires
-read-list-requires c κs = search needs
-
--- src/reader.rt:134:9
-same-length : tie.Need-same-length
-same-length c = search needs
-
--- src/reader.rt:134:9
 returns-2 : tie.Need-returns-2
-returns-2 c = ?
+returns-2 c =
+    let a = c .before .before .before .before .before .before .before .before .before .before .before .before .before .args in
+    walked-as (listWords Index .print) (λ x. 9) (supersWords .print) (λ x. 9) (λ xs. (false, xs)) (0 ∷ []) 9 (now (a .b)) (listBytes Index .parse (drop (a .at + 1) (now (a .b)))) _ (now (a .out)) (a .s) _ _ _ _
+    (open-read (now (a .b)) (a .at) (c .before .before .before .before .before .before .before .before .before .before .if1 .left) (c .before .before .before .before .before .before .before .before .if2 .taken)) (λ x q e. refl) (λ x. refl) (c .before .before .before .before .before .before .append-word .ensures) (c .before .before .read-list .ensures)
 
--- src/reader.rt:137:29
-add-read-some : tie.Need-add-read-some
-add-read-some c = search needs
-
--- src/reader.rt:137:9
-read-some-requires : tie.Need-read-some-requires
-read-some-requires c κs = search needs
-
--- src/reader.rt:137:9
-same-length-2 : tie.Need-same-length-2
-same-length-2 c = search needs
-
--- src/reader.rt:137:9
 returns-3 : tie.Need-returns-3
-returns-3 c = ?
+returns-3 c =
+    let a = c .before .before .before .before .before .before .before .before .before .before .args in
+    walked-as (λ xs. 1 ∷ listWords Index .print xs) (λ x. 9) (supersWords .print) (λ x. 9) (λ xs. (true, xs)) [] 9 (now (a .b)) (someSupers .parse (drop (a .at + 1) (now (a .b)))) _ (now (a .out)) (a .s) _ _ _ _
+    (final-read (now (a .b)) (a .at) (c .before .before .before .before .before .before .before .if1 .left) (c .before .before .before .before .if3 .taken)) (λ x q e. refl) (λ x. refl) (adds-nil (now (a .out)) (a .s)) (c .before .before .read-some .ensures)
 
--- src/reader.rt:139:9
-append-word-requires-2 : tie.Need-append-word-requires-2
-append-word-requires-2 c κs = search needs
-
--- src/reader.rt:140:19
-append-word-requires-3 : tie.Need-append-word-requires-3
-append-word-requires-3 c κs = search needs
-
--- src/reader.rt:125:1
-same-length-3 : tie.Need-same-length-3
-same-length-3 c = search needs
-
--- src/reader.rt:125:1
 returns-4 : tie.Need-returns-4
-returns-4 c = ?
+returns-4 c =
+    let a = c .before .before .before .before .before .before .before .before .before .before .before .before .before .before .args in
+    walked-is (supersWords .print) (λ x. 9) (now (a .b)) _ (now (a .out)) (a .s) _ (true, []) (a .at) _
+    (no-prefix (now (a .b)) (a .at) (c .before .before .before .before .before .before .before .before .before .before .before .if1 .left) (c .before .before .before .before .before .before .before .before .before .if2 .left) (c .before .before .before .before .before .before .before .before .if3 .left)) (omega (arith, c .before .before .before .before .before .before .before .before .before .before .before .if1 .left)) (adds-seq (c .before .before .before .before .before .before .append-word2 .ensures) (c .before .before .append-word3 .ensures))
 
 pub read-supers-spec : {M : Type 1} → statement M
 read-supers-spec =
     tie.close
     (tie.spec
     returns
-    shared-slice-read-x
-    append-word-requires
-    add-read-list
-    read-list-requires
-    same-length
+    (λ c. search needs)
+    (λ c κs. search needs)
+    (λ c. search needs)
+    (λ c κs. search needs)
+    (λ c. search needs)
     returns-2
-    add-read-some
-    read-some-requires
-    same-length-2
+    (λ c. search needs)
+    (λ c κs. search needs)
+    (λ c. search needs)
     returns-3
-    append-word-requires-2
-    append-word-requires-3
-    same-length-3
+    (λ c κs. search needs)
+    (λ c κs. search needs)
+    (λ c. search needs)
     returns-4)

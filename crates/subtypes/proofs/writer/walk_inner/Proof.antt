@@ -1,135 +1,77 @@
+-- `subtypes::writer::walk_inner` meets its contract: by its kind. Assumes nothing.
+use denote.Ref.{now}
+use mathlib.Core.Path.{refl}
+use mathlib.Core.List.{[], _∷_}
+use Prim.Native.Nat.{_+_}
+use Rattle.format.specs.Read.{drop-end, one-read}
+use Rattle.format.specs.Sequence.{walks-known}
+use Rattle.format.specs.Walk.{walks-no}
+use Rattle.subtypes.specs.Composite.{func, array, struct, cont, kindWords, bodyWords, bodyBytes, innerWords, innerBytes}
+use Rattle.subtypes.proofs.Words.{no-kind}
 use borrow.Author.Needs.{needs}
 use Rattle.subtypes.proofs.writer.walk_inner.Statement.{statement}
 use Rattle.subtypes.proofs.writer.walk_inner.Tie as tie
-use Rattle.subtypes.proofs.writer.walk_inner.Reads as reads
-use Rattle.subtypes.proofs.writer.walk_inner.Lts as lts
-use Rattle.format.proofs.append_byte.Reads as append-byte-reads
-use Rattle.lists.proofs.walk_list.Reads as walk-list-reads
-use Rattle.subtypes.proofs.writer.walk_cont.Reads as walk-cont-reads
-use Rattle.subtypes.proofs.writer.walk_func.Reads as walk-func-reads
-use Rattle.types.proofs.walk_field.Reads as walk-field-reads
 
--- src/writer.rt:47:9
 returns : tie.Need-returns
-returns c = ?
+returns c =
+    let a = c .before .before .before .args in
+    walks-no innerWords (innerBytes .print) (λ x. 9) (now (a .words)) (a .at) (now (a .out)) (a .s) _ (rw (drop-end (now (a .words)) (a .at) (c .if1 .taken)))
 
--- src/writer.rt:49:13
-mul-k : tie.Need-mul-k
-mul-k c = search needs
-
--- src/writer.rt:49:13
-shared-slice-read-k : tie.Need-shared-slice-read-k
-shared-slice-read-k c = search needs
-
--- src/writer.rt:51:13
-append-byte-requires : tie.Need-append-byte-requires
-append-byte-requires c κs = search needs
-
--- src/writer.rt:52:33
-add-walk-func : tie.Need-add-walk-func
-add-walk-func c = search needs
-
--- src/writer.rt:52:9
-walk-func-requires : tie.Need-walk-func-requires
-walk-func-requires c κs = search needs
-
--- src/writer.rt:52:9
-same-length : tie.Need-same-length
-same-length c = search needs
-
--- src/writer.rt:52:9
 returns-2 : tie.Need-returns-2
-returns-2 c = ?
+returns-2 c =
+    let a = c .before .before .before .before .before .before .before .before .before .before .before .before .before .args in
+    walks-known kindWords bodyWords (innerBytes .print) func (bodyBytes func .print) (0x60 ∷ []) (now (a .words)) (a .at) (a .at + 1) (now (a .out)) (a .s) _ _ _ _
+    (one-read kindWords func 0 tt refl (now (a .words)) (a .at) (c .before .before .before .before .before .before .before .before .before .before .if1 .left) (c .before .before .before .before .before .before .before .before .if2 .taken)) (λ x q e. refl) (c .before .before .before .before .before .before .append-byte .ensures) (c .before .before .walk-func .ensures)
 
--- src/writer.rt:55:13
-append-byte-requires-2 : tie.Need-append-byte-requires-2
-append-byte-requires-2 c κs = search needs
-
--- src/writer.rt:56:34
-add-walk-field : tie.Need-add-walk-field
-add-walk-field c = search needs
-
--- src/writer.rt:56:9
-walk-field-requires : tie.Need-walk-field-requires
-walk-field-requires c κs = search needs
-
--- src/writer.rt:56:9
-same-length-2 : tie.Need-same-length-2
-same-length-2 c = search needs
-
--- src/writer.rt:56:9
 returns-3 : tie.Need-returns-3
-returns-3 c = ?
+returns-3 c =
+    let a = c .before .before .before .before .before .before .before .before .before .before .before .before .before .before .args in
+    walks-known kindWords bodyWords (innerBytes .print) array (bodyBytes array .print) (0x5E ∷ []) (now (a .words)) (a .at) (a .at + 1) (now (a .out)) (a .s) _ _ _ _
+    (one-read kindWords array 1 tt refl (now (a .words)) (a .at) (c .before .before .before .before .before .before .before .before .before .before .before .if1 .left) (c .before .before .before .before .before .before .before .before .if3 .taken)) (λ x q e. refl) (c .before .before .before .before .before .before .append-byte2 .ensures) (c .before .before .walk-field .ensures)
 
--- src/writer.rt:59:13
-append-byte-requires-3 : tie.Need-append-byte-requires-3
-append-byte-requires-3 c κs = search needs
-
--- src/writer.rt:60:48
-add-walk-list : tie.Need-add-walk-list
-add-walk-list c = search needs
-
--- src/writer.rt:60:9
-walk-list-requires : tie.Need-walk-list-requires
-walk-list-requires c κs = search needs
-
--- src/writer.rt:60:9
-same-length-3 : tie.Need-same-length-3
-same-length-3 c = search needs
-
--- src/writer.rt:60:9
 returns-4 : tie.Need-returns-4
-returns-4 c = ?
+returns-4 c =
+    let a = c .before .before .before .before .before .before .before .before .before .before .before .before .before .before .before .args in
+    walks-known kindWords bodyWords (innerBytes .print) struct (bodyBytes struct .print) (0x5F ∷ []) (now (a .words)) (a .at) (a .at + 1) (now (a .out)) (a .s) _ _ _ _
+    (one-read kindWords struct 2 tt refl (now (a .words)) (a .at) (c .before .before .before .before .before .before .before .before .before .before .before .before .if1 .left) (c .before .before .before .before .before .before .before .before .if4 .taken)) (λ x q e. refl) (c .before .before .before .before .before .before .append-byte3 .ensures) (c .before .before .walk-list .ensures)
 
--- src/writer.rt:63:13
-append-byte-requires-4 : tie.Need-append-byte-requires-4
-append-byte-requires-4 c κs = search needs
-
--- src/writer.rt:64:33
-add-walk-cont : tie.Need-add-walk-cont
-add-walk-cont c = search needs
-
--- src/writer.rt:64:9
-walk-cont-requires : tie.Need-walk-cont-requires
-walk-cont-requires c κs = search needs
-
--- src/writer.rt:64:9
-same-length-4 : tie.Need-same-length-4
-same-length-4 c = search needs
-
--- src/writer.rt:64:9
 returns-5 : tie.Need-returns-5
-returns-5 c = ?
+returns-5 c =
+    let a = c .before .before .before .before .before .before .before .before .before .before .before .before .before .before .before .before .args in
+    walks-known kindWords bodyWords (innerBytes .print) cont (bodyBytes cont .print) (0x5D ∷ []) (now (a .words)) (a .at) (a .at + 1) (now (a .out)) (a .s) _ _ _ _
+    (one-read kindWords cont 3 tt refl (now (a .words)) (a .at) (c .before .before .before .before .before .before .before .before .before .before .before .before .before .if1 .left) (c .before .before .before .before .before .before .before .before .if5 .taken)) (λ x q e. refl) (c .before .before .before .before .before .before .append-byte4 .ensures) (c .before .before .walk-cont .ensures)
 
--- src/writer.rt:43:1
 returns-6 : tie.Need-returns-6
-returns-6 c = ?
+returns-6 c =
+    let a = c .before .before .before .before .before .before .before .before .args in
+    walks-no innerWords (innerBytes .print) (λ x. 9) (now (a .words)) (a .at) (now (a .out)) (a .s) _
+    (rw (no-kind (now (a .words)) (a .at) (c .before .before .before .before .before .if1 .left) (c .before .before .before .if2 .left) (c .before .before .if3 .left) (c .before .if4 .left) (c .if5 .left)))
 
 pub walk-inner-spec : {M : Type 1} → statement M
 walk-inner-spec =
     tie.close
     (tie.spec
     returns
-    mul-k
-    shared-slice-read-k
-    append-byte-requires
-    add-walk-func
-    walk-func-requires
-    same-length
+    (λ c. search needs)
+    (λ c. search needs)
+    (λ c κs. search needs)
+    (λ c. search needs)
+    (λ c κs. search needs)
+    (λ c. search needs)
     returns-2
-    append-byte-requires-2
-    add-walk-field
-    walk-field-requires
-    same-length-2
+    (λ c κs. search needs)
+    (λ c. search needs)
+    (λ c κs. search needs)
+    (λ c. search needs)
     returns-3
-    append-byte-requires-3
-    add-walk-list
-    walk-list-requires
-    same-length-3
+    (λ c κs. search needs)
+    (λ c. search needs)
+    (λ c κs. search needs)
+    (λ c. search needs)
     returns-4
-    append-byte-requires-4
-    add-walk-cont
-    walk-cont-requires
-    same-length-4
+    (λ c κs. search needs)
+    (λ c. search needs)
+    (λ c κs. search needs)
+    (λ c. search needs)
     returns-5
     returns-6)

@@ -1,107 +1,79 @@
+-- `subtypes::writer::walk_option` meets its contract. Assumes nothing.
+use denote.Ref.{now}
+use mathlib.Core.Option.{none, some}
+use Prim.Native.Nat.{_+_}
+use native.Mathlib.Omega.{arith}
+use lib.ListN.{getD}
+use Rattle.format.specs.Alternatives.{opt}
+use Rattle.format.specs.Count.{adds-nil, adds-seq}
+use Rattle.format.specs.Leads.{option}
+use Rattle.format.specs.Read.{too-few}
+use Rattle.format.specs.Walk.{walks-no, walks-got}
+use Rattle.leb128.specs.Formats.{u32}
+use Rattle.texts.specs.Words.{word}
+use Rattle.subtypes.proofs.Words.{option-long, option-none, option-some, option-flag, option-unused}
 use borrow.Author.Needs.{needs}
 use Rattle.subtypes.proofs.writer.walk_option.Statement.{statement}
 use Rattle.subtypes.proofs.writer.walk_option.Tie as tie
-use Rattle.subtypes.proofs.writer.walk_option.Reads as reads
-use Rattle.subtypes.proofs.writer.walk_option.Lts as lts
-use Rattle.format.proofs.append_byte.Reads as append-byte-reads
-use Rattle.numbers.proofs.append_u32.Reads as append-u32-reads
 
--- src/writer.rt:74:9
 returns : tie.Need-returns
-returns c = ?
+returns c =
+    let a = c .before .before .before .args in
+    walks-no (opt word) (option (a .k) u32 .print) (λ x. 9) (now (a .words)) (a .at) (now (a .out)) (a .s) _ (too-few (opt word) 2 (omega arith) option-long (now (a .words)) (a .at) (omega (arith, c .if1 .taken)))
 
--- src/writer.rt:76:8
-sub-if2 : tie.Need-sub-if2
-sub-if2 c = search needs
-
--- src/writer.rt:77:9
 returns-2 : tie.Need-returns-2
-returns-2 c = ?
+returns-2 c =
+    let a = c .before .before .before .before .args in
+    walks-no (opt word) (option (a .k) u32 .print) (λ x. 9) (now (a .words)) (a .at) (now (a .out)) (a .s) _
+    (too-few (opt word) 2 (omega arith) option-long (now (a .words)) (a .at) (omega (arith, c .if2 .taken, c .before .if1 .left)))
 
--- src/writer.rt:79:19
-add-x : tie.Need-add-x
-add-x c = search needs
-
--- src/writer.rt:79:13
-mul-x : tie.Need-mul-x
-mul-x c = search needs
-
--- src/writer.rt:79:13
-shared-slice-read-x : tie.Need-shared-slice-read-x
-shared-slice-read-x c = search needs
-
--- src/writer.rt:80:8
-mul-if3 : tie.Need-mul-if3
-mul-if3 c = search needs
-
--- src/writer.rt:80:8
-shared-slice-read-if3 : tie.Need-shared-slice-read-if3
-shared-slice-read-if3 c = search needs
-
--- src/writer.rt:81:13
-append-byte-requires : tie.Need-append-byte-requires
-append-byte-requires c κs = search needs
-
--- src/writer.rt:82:26
-add-t16 : tie.Need-add-t16
-add-t16 c = search needs
-
--- src/writer.rt:82:34
-append-u32-requires : tie.Need-append-u32-requires
-append-u32-requires c κs = search needs
-
--- src/writer.rt:82:9
-same-length : tie.Need-same-length
-same-length c = search needs
-
--- src/writer.rt:82:9
 returns-3 : tie.Need-returns-3
-returns-3 c = ?
+returns-3 c =
+    let a = c .before .before .before .before .before .before .before .before .before .before .before .before .before .before .before .args in
+    let w = now (a .words) in
+    walks-got (opt word) (option (a .k) u32 .print) (λ x. 9) w (a .at) (now (a .out)) (a .s) _ (some (getD w (a .at + 1) 0)) (a .at + 2) _
+    (option-some w (a .at) (omega (arith, c .before .before .before .before .before .before .before .before .before .before .before .if2 .left, c .before .before .before .before .before .before .before .before .before .before .before .before .if1 .left)) (c .before .before .before .before .before .before .before .before .if3 .taken) (omega (arith, c .before .before .before .before .before .before .before .before .before .before .before .before .before .before .shared-slice-known .given (a .at + 1))))
+    (omega (arith, c .before .before .before .before .before .before .before .before .before .before .before .if2 .left, c .before .before .before .before .before .before .before .before .before .before .before .before .if1 .left)) (adds-seq (c .before .before .before .before .before .before .append-byte .ensures) (c .before .before .append-u32 .ensures))
 
--- src/writer.rt:84:8
-mul-if4 : tie.Need-mul-if4
-mul-if4 c = search needs
-
--- src/writer.rt:84:8
-shared-slice-read-if4 : tie.Need-shared-slice-read-if4
-shared-slice-read-if4 c = search needs
-
--- src/writer.rt:85:9
 returns-4 : tie.Need-returns-4
-returns-4 c = ?
+returns-4 c =
+    let a = c .before .before .before .before .before .before .before .before .before .args in
+    walks-no (opt word) (option (a .k) u32 .print) (λ x. 9) (now (a .words)) (a .at) (now (a .out)) (a .s) _
+    (option-flag (now (a .words)) (a .at) (omega (arith, c .before .before .before .before .before .if2 .left, c .before .before .before .before .before .before .if1 .left)) (c .if4 .taken) (c .before .before .if3 .left))
 
--- src/writer.rt:88:9
 returns-5 : tie.Need-returns-5
-returns-5 c = ?
+returns-5 c =
+    let a = c .before .before .before .before .before .before .before .before .before .before .args in
+    walks-no (opt word) (option (a .k) u32 .print) (λ x. 9) (now (a .words)) (a .at) (now (a .out)) (a .s) _
+    (option-unused (now (a .words)) (a .at) (omega (arith, c .before .before .before .before .before .before .if2 .left, c .before .before .before .before .before .before .before .if1 .left)) (c .before .if4 .left) (c .if5 .taken))
 
--- src/writer.rt:90:15
-add-t8 : tie.Need-add-t8
-add-t8 c = search needs
-
--- src/writer.rt:70:1
 returns-6 : tie.Need-returns-6
-returns-6 c = ?
+returns-6 c =
+    let a = c .before .before .before .before .before .before .before .before .before .before .args in
+    walks-got (opt word) (option (a .k) u32 .print) (λ x. 9) (now (a .words)) (a .at) (now (a .out)) (a .s) _ none (a .at + 2) _
+    (option-none (now (a .words)) (a .at) (omega (arith, c .before .before .before .before .before .before .if2 .left, c .before .before .before .before .before .before .before .if1 .left)) (c .before .if4 .left) (c .if5 .left)) (omega (arith, c .before .before .before .before .before .before .if2 .left, c .before .before .before .before .before .before .before .if1 .left))
+    (adds-nil (now (a .out)) (a .s))
 
 pub walk-option-spec : {M : Type 1} → statement M
 walk-option-spec =
     tie.close
     (tie.spec
     returns
-    sub-if2
+    (λ c. search needs)
     returns-2
-    add-x
-    mul-x
-    shared-slice-read-x
-    mul-if3
-    shared-slice-read-if3
-    append-byte-requires
-    add-t16
-    append-u32-requires
-    same-length
+    (λ c. search needs)
+    (λ c. search needs)
+    (λ c. search needs)
+    (λ c. search needs)
+    (λ c. search needs)
+    (λ c κs. search needs)
+    (λ c. search needs)
+    (λ c κs. search needs)
+    (λ c. search needs)
     returns-3
-    mul-if4
-    shared-slice-read-if4
+    (λ c. search needs)
+    (λ c. search needs)
     returns-4
     returns-5
-    add-t8
+    (λ c. search needs)
     returns-6)

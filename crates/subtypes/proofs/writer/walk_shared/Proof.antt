@@ -1,61 +1,50 @@
+-- `subtypes::writer::walk_shared` meets its contract. Assumes nothing.
+use denote.Ref.{now}
+use mathlib.Core.Path.{refl}
+use mathlib.Core.Bool.{true, false}
+use Prim.Native.Nat.{_+_}
+use native.Mathlib.Omega.{arith}
+use Rattle.format.specs.Basic.{flag}
+use Rattle.format.specs.Count.{adds-nil}
+use Rattle.format.specs.Leads.{mark}
+use Rattle.format.specs.Read.{drop-end, one-read}
+use Rattle.format.specs.Walk.{walks-no, walks-got}
+use Rattle.subtypes.proofs.Words.{no-flag}
 use borrow.Author.Needs.{needs}
 use Rattle.subtypes.proofs.writer.walk_shared.Statement.{statement}
 use Rattle.subtypes.proofs.writer.walk_shared.Tie as tie
-use Rattle.subtypes.proofs.writer.walk_shared.Reads as reads
-use Rattle.subtypes.proofs.writer.walk_shared.Lts as lts
-use Rattle.format.proofs.append_byte.Reads as append-byte-reads
 
--- src/writer.rt:109:9
 returns : tie.Need-returns
-returns c = ?
+returns c = let a = c .before .before .before .args in walks-no flag (mark 0x65 .print) (λ x. 9) (now (a .words)) (a .at) (now (a .out)) (a .s) _ (rw (drop-end (now (a .words)) (a .at) (c .if1 .taken)))
 
--- src/writer.rt:111:13
-mul-f : tie.Need-mul-f
-mul-f c = search needs
-
--- src/writer.rt:111:13
-shared-slice-read-f : tie.Need-shared-slice-read-f
-shared-slice-read-f c = search needs
-
--- src/writer.rt:113:26
-add-t10 : tie.Need-add-t10
-add-t10 c = search needs
-
--- src/writer.rt:113:34
-append-byte-requires : tie.Need-append-byte-requires
-append-byte-requires c κs = search needs
-
--- src/writer.rt:113:9
-same-length : tie.Need-same-length
-same-length c = search needs
-
--- src/writer.rt:113:9
 returns-2 : tie.Need-returns-2
-returns-2 c = ?
+returns-2 c =
+    let a = c .before .before .before .before .before .before .before .before .before .args in
+    walks-got flag (mark 0x65 .print) (λ x. 9) (now (a .words)) (a .at) (now (a .out)) (a .s) _ true (a .at + 1) _
+    (one-read flag true 1 tt refl (now (a .words)) (a .at) (c .before .before .before .before .before .before .if1 .left) (c .before .before .before .before .if2 .taken)) (omega (arith, c .before .before .before .before .before .before .if1 .left)) (c .before .before .append-byte .ensures)
 
--- src/writer.rt:116:9
 returns-3 : tie.Need-returns-3
-returns-3 c = ?
+returns-3 c =
+    let a = c .before .before .before .before .before .before .args in
+    walks-no flag (mark 0x65 .print) (λ x. 9) (now (a .words)) (a .at) (now (a .out)) (a .s) _ (no-flag (now (a .words)) (a .at) (c .before .before .before .if1 .left) (c .if3 .taken) (c .before .if2 .left))
 
--- src/writer.rt:118:15
-add-t6 : tie.Need-add-t6
-add-t6 c = search needs
-
--- src/writer.rt:105:1
 returns-4 : tie.Need-returns-4
-returns-4 c = ?
+returns-4 c =
+    let a = c .before .before .before .before .before .before .args in
+    walks-got flag (mark 0x65 .print) (λ x. 9) (now (a .words)) (a .at) (now (a .out)) (a .s) _ false (a .at + 1) _
+    (one-read flag false 0 tt refl (now (a .words)) (a .at) (c .before .before .before .if1 .left) (c .if3 .left)) (omega (arith, c .before .before .before .if1 .left)) (adds-nil (now (a .out)) (a .s))
 
 pub walk-shared-spec : {M : Type 1} → statement M
 walk-shared-spec =
     tie.close
     (tie.spec
     returns
-    mul-f
-    shared-slice-read-f
-    add-t10
-    append-byte-requires
-    same-length
+    (λ c. search needs)
+    (λ c. search needs)
+    (λ c. search needs)
+    (λ c κs. search needs)
+    (λ c. search needs)
     returns-2
     returns-3
-    add-t6
+    (λ c. search needs)
     returns-4)

@@ -1,78 +1,53 @@
+-- `subtypes::writer::walk_sub` meets its contract: supertypes, shared or not, and the rest. Assumes nothing.
+use denote.Ref.{now}
+use mathlib.Core.Path.{refl}
+use Rattle.format.specs.Basic.{flag}
+use Rattle.format.specs.Combine.{pair}
+use Rattle.format.specs.Leads.{mark}
+use Rattle.format.specs.Sequence.{joins-no, joins-got, joins, pair-joins}
+use Rattle.subtypes.specs.SubType.{ofParts, supersWords, supersLead, sharedBytes, describedWords, describedBytes, subWords, subBytes}
 use borrow.Author.Needs.{needs}
 use Rattle.subtypes.proofs.writer.walk_sub.Statement.{statement}
 use Rattle.subtypes.proofs.writer.walk_sub.Tie as tie
-use Rattle.subtypes.proofs.writer.walk_sub.Reads as reads
-use Rattle.subtypes.proofs.writer.walk_sub.Lts as lts
-use Rattle.subtypes.proofs.writer.walk_described.Reads as walk-described-reads
-use Rattle.subtypes.proofs.writer.walk_shared.Reads as walk-shared-reads
-use Rattle.subtypes.proofs.writer.walk_supers.Reads as walk-supers-reads
 
--- src/writer.rt:149:27
-walk-supers-requires : tie.Need-walk-supers-requires
-walk-supers-requires c κs = search needs
-
--- src/writer.rt:149:19
-enum-known-p : tie.Need-enum-known-p
-enum-known-p c = search needs
-
--- src/writer.rt:150:9
-enum-told : tie.Need-enum-told
-enum-told c = search needs
-
--- src/writer.rt:150:9
-same-length : tie.Need-same-length
-same-length c = search needs
-
--- src/writer.rt:150:9
 returns : tie.Need-returns
-returns c = ?
+returns c =
+    let a = c .before .before .before .before .before .before .before .before .args in
+    joins-no _ _ _ _ _ _ _ _ _ (joins supersWords (supersLead .print) (pair flag describedWords) (sharedBytes .print) subWords (subBytes .print) ofParts (λ l. refl) (λ x y. refl)) (now (a .words)) (a .at) (now (a .out)) (a .s) _ _
+    (c .before .before .before .before .walk-supers .ensures) _ (c .enum-told .given .1)
 
--- src/writer.rt:152:27
-walk-shared-requires : tie.Need-walk-shared-requires
-walk-shared-requires c κs = search needs
-
--- src/writer.rt:152:19
-enum-known-q : tie.Need-enum-known-q
-enum-known-q c = search needs
-
--- src/writer.rt:153:9
-enum-told-2 : tie.Need-enum-told-2
-enum-told-2 c = search needs
-
--- src/writer.rt:153:9
-same-length-2 : tie.Need-same-length-2
-same-length-2 c = search needs
-
--- src/writer.rt:153:9
 returns-2 : tie.Need-returns-2
-returns-2 c = ?
+returns-2 c =
+    let a = c .before .before .before .before .before .before .before .before .before .before .before .before .before .before .before .args in
+    let v = c .before .before .before .before .before .before .before .p .given in
+    joins-got _ _ _ _ _ _ _ _ _ (joins supersWords (supersLead .print) (pair flag describedWords) (sharedBytes .print) subWords (subBytes .print) ofParts (λ l. refl) (λ x y. refl)) (now (a .words)) (a .at) (now (a .out)) (a .s) _ _
+    (c .before .before .before .before .before .before .before .before .before .before .before .walk-supers .ensures) _ (v .0 .0) (v .0 .1 .0) _ (v .1)
+    (joins-no _ _ _ _ _ _ _ _ _ (pair-joins flag (mark 0x65 .print) describedWords (describedBytes .print)) (now (a .words)) (v .0 .0) _ (v .0 .1 .0) _ _ (c .before .before .before .before .walk-shared .ensures) _ (c .enum-told2 .given .1))
 
--- src/writer.rt:155:5
-walk-described-requires : tie.Need-walk-described-requires
-walk-described-requires c κs = search needs
-
--- src/writer.rt:146:1
-same-length-3 : tie.Need-same-length-3
-same-length-3 c = search needs
-
--- src/writer.rt:146:1
 returns-3 : tie.Need-returns-3
-returns-3 c = ?
+returns-3 c =
+    let a = c .before .before .before .before .before .before .before .before .before .before .before .before .before .before .before .before .before .before .before .before .args in
+    let v = c .before .before .before .before .before .before .before .before .before .before .before .before .p .given in
+    let q = c .before .before .before .before .before .q .given in
+    joins-got _ _ _ _ _ _ _ _ _ (joins supersWords (supersLead .print) (pair flag describedWords) (sharedBytes .print) subWords (subBytes .print) ofParts (λ l. refl) (λ x y. refl)) (now (a .words)) (a .at) (now (a .out)) (a .s) _ _
+    (c .before .before .before .before .before .before .before .before .before .before .before .before .before .before .before .before .walk-supers .ensures) _ (v .0 .0) (v .0 .1 .0) _ (v .1)
+    (joins-got _ _ _ _ _ _ _ _ _ (pair-joins flag (mark 0x65 .print) describedWords (describedBytes .print)) (now (a .words)) (v .0 .0) _ (v .0 .1 .0) _ _ (c .before .before .before .before .before .before .before .before .before .walk-shared .ensures) _ (q .0 .0) (q .0 .1 .0) _ (q .1)
+    (c .before .before .walk-described .ensures))
 
 pub walk-sub-spec : {M : Type 1} → statement M
 walk-sub-spec =
     tie.close
     (tie.spec
-    walk-supers-requires
-    enum-known-p
-    enum-told
-    same-length
+    (λ c κs. search needs)
+    (λ c. search needs)
+    (λ c. search needs)
+    (λ c. search needs)
     returns
-    walk-shared-requires
-    enum-known-q
-    enum-told-2
-    same-length-2
+    (λ c κs. search needs)
+    (λ c. search needs)
+    (λ c. search needs)
+    (λ c. search needs)
     returns-2
-    walk-described-requires
-    same-length-3
+    (λ c κs. search needs)
+    (λ c. search needs)
     returns-3)

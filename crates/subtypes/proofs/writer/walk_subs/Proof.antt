@@ -1,58 +1,38 @@
+-- `subtypes::writer::walk_subs` meets its contract: the loop has walked some subtypes, and the others are left. Assumes nothing.
+use denote.Ref.{now}
+use mathlib.Core.Path.{_∙_}
+use Rattle.format.specs.Loop.{Going, going-none, going-more, members-no, members-got}
+use Rattle.format.specs.Walk.{no-walks, got-walks}
+use Rattle.subtypes.specs.SubType.{subWords, subBytes}
+use borrow.Author.Needs.{needs}
 use Rattle.subtypes.proofs.writer.walk_subs.Statement.{statement}
 use Rattle.subtypes.proofs.writer.walk_subs.Tie as tie
-use Rattle.subtypes.proofs.writer.walk_subs.Reads as reads
-use Rattle.subtypes.proofs.writer.walk_subs.Lts as lts
-use Rattle.subtypes.proofs.writer.walk_sub.Reads as walk-sub-reads
 
 abbrev Inv-loop : tie.InvT-loop
-Inv-loop n words at out₀ t₀ p₀ left₀ out t p left = ?
+Inv-loop n words at out₀ t₀ p₀ left₀ out t p left = Going subWords (λ k v. subBytes .print v) (λ v. 9) words at n out₀ t₀ out t p left
 
 abbrev μ-loop : tie.MeasureT-loop
-μ-loop n words at out₀ t₀ p₀ left₀ out t p left = ?
+μ-loop n words at out₀ t₀ p₀ left₀ out t p left = left
 
--- src/writer.rt:166:5
 loop-holds : tie.Need-loop-holds Inv-loop μ-loop
-loop-holds c = ?
+loop-holds c = let a = c .before .before .args in going-none subWords (λ k v. subBytes .print v) (λ v. 9) (now (a .words)) (a .at) (a .n) (now (a .out)) (a .s) (c .before .before .pre)
 
--- src/writer.rt:167:31
-walk-sub-requires : tie.Need-walk-sub-requires Inv-loop μ-loop
-walk-sub-requires c κs = ?
-
--- src/writer.rt:167:23
-enum-known-q : tie.Need-enum-known-q Inv-loop μ-loop
-enum-known-q c = ?
-
--- src/writer.rt:168:13
-enum-told : tie.Need-enum-told Inv-loop μ-loop
-enum-told c = ?
-
--- src/writer.rt:168:13
-same-length : tie.Need-same-length Inv-loop μ-loop
-same-length c = ?
-
--- src/writer.rt:168:13
 returns : tie.Need-returns Inv-loop μ-loop
-returns c = ?
+returns c =
+    let l = c .before .before .before .before .before .before .before .loop in
+    let x = c .before .before .before .before .walk-sub in
+    members-no subWords (subBytes .print) (l .inv) _ (c .before .before .before .before .before .before .loop-test .taken)
+    (no-walks subWords (subBytes .print) (λ y. 9) (now (c .before .before .before .before .before .before .before .before .before .before .args .words)) (l .p) _ _ _ (x .result) (x .ensures) (c .enum-told .given .1))
 
--- src/writer.rt:172:16
-sub-left : tie.Need-sub-left Inv-loop μ-loop
-sub-left c = ?
-
--- src/writer.rt:166:5
-loop-less : tie.Need-loop-less Inv-loop μ-loop
-loop-less c = ?
-
--- src/writer.rt:166:5
 loop-again : tie.Need-loop-again Inv-loop μ-loop
-loop-again c = ?
+loop-again c =
+    let l = c .before .before .before .before .before .before .before .before .loop in
+    let x = c .before .before .before .before .before .walk-sub in
+    going-more subWords (λ k v. subBytes .print v) (λ v. 9) (l .inv) (c .before .before .before .before .before .before .before .loop-test .taken)
+    (got-walks subWords (subBytes .print) (λ y. 9) (now (c .before .before .before .before .before .before .before .before .before .before .before .args .words)) (l .p) _ _ _ (x .result) _ _ (x .ensures) (c .before .q .given .1)) (x .kept .1 .1 .0)
 
--- src/writer.rt:159:1
-same-length-2 : tie.Need-same-length-2 Inv-loop μ-loop
-same-length-2 c = ?
-
--- src/writer.rt:159:1
 returns-2 : tie.Need-returns-2 Inv-loop μ-loop
-returns-2 c = ?
+returns-2 c = members-got subWords (subBytes .print) (c .before .loop .inv) (c .loop-test .left)
 
 pub walk-subs-spec : {M : Type 1} → statement M
 walk-subs-spec =
@@ -61,13 +41,13 @@ walk-subs-spec =
     Inv-loop
     μ-loop
     loop-holds
-    walk-sub-requires
-    enum-known-q
-    enum-told
-    same-length
+    (λ c κs. search needs)
+    (λ c. search needs)
+    (λ c. search needs)
+    (λ c. c .before .before .before .before .walk-sub .kept .1 .1 .0 ∙ c .before .before .before .before .before .before .before .loop .inv .kept)
     returns
-    sub-left
-    loop-less
+    (λ c. search needs)
+    (λ c. search needs)
     loop-again
-    same-length-2
+    (λ c. c .before .loop .inv .kept)
     returns-2)

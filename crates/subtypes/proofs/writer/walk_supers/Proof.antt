@@ -1,117 +1,81 @@
+-- `subtypes::writer::walk_supers` meets its contract: by the flag, and by the count. Assumes nothing.
+use denote.Ref.{now}
+use mathlib.Core.Path.{refl}
+use mathlib.Core.Bool.{true, false}
+use mathlib.Core.List.{[], _∷_}
+use Prim.Native.Nat.{_+_}
+use native.Mathlib.Omega.{arith}
+use Rattle.format.specs.Basic.{flag}
+use Rattle.format.specs.Count.{adds-nil}
+use Rattle.format.specs.Read.{too-few, one-read}
+use Rattle.format.specs.Sequence.{walks-known}
+use Rattle.format.specs.Walk.{walks-no, walks-got}
+use Rattle.lists.specs.Member.{listWords, listBytes}
+use Rattle.lists.specs.declared.Member.the-variants.{Index}
+use Rattle.subtypes.specs.SubType.{supersWords, supersLead}
+use Rattle.subtypes.proofs.Words.{supers-long, no-flag, no-supers, not-empty, some-print}
 use borrow.Author.Needs.{needs}
 use Rattle.subtypes.proofs.writer.walk_supers.Statement.{statement}
 use Rattle.subtypes.proofs.writer.walk_supers.Tie as tie
-use Rattle.subtypes.proofs.writer.walk_supers.Reads as reads
-use Rattle.subtypes.proofs.writer.walk_supers.Lts as lts
-use Rattle.format.proofs.append_byte.Reads as append-byte-reads
-use Rattle.lists.proofs.walk_list.Reads as walk-list-reads
 
--- src/writer.rt:126:9
 returns : tie.Need-returns
-returns c = ?
+returns c =
+    let a = c .before .before .before .args in
+    walks-no supersWords (supersLead .print) (λ x. 9) (now (a .words)) (a .at) (now (a .out)) (a .s) _ (too-few supersWords 2 (omega arith) supers-long (now (a .words)) (a .at) (omega (arith, c .if1 .taken)))
 
--- src/writer.rt:128:8
-sub-if2 : tie.Need-sub-if2
-sub-if2 c = search needs
-
--- src/writer.rt:129:9
 returns-2 : tie.Need-returns-2
-returns-2 c = ?
+returns-2 c =
+    let a = c .before .before .before .before .args in
+    walks-no supersWords (supersLead .print) (λ x. 9) (now (a .words)) (a .at) (now (a .out)) (a .s) _
+    (too-few supersWords 2 (omega arith) supers-long (now (a .words)) (a .at) (omega (arith, c .if2 .taken, c .before .if1 .left)))
 
--- src/writer.rt:131:13
-mul-f : tie.Need-mul-f
-mul-f c = search needs
-
--- src/writer.rt:131:13
-shared-slice-read-f : tie.Need-shared-slice-read-f
-shared-slice-read-f c = search needs
-
--- src/writer.rt:133:13
-append-byte-requires : tie.Need-append-byte-requires
-append-byte-requires c κs = search needs
-
--- src/writer.rt:134:48
-add-walk-list : tie.Need-add-walk-list
-add-walk-list c = search needs
-
--- src/writer.rt:134:9
-walk-list-requires : tie.Need-walk-list-requires
-walk-list-requires c κs = search needs
-
--- src/writer.rt:134:9
-same-length : tie.Need-same-length
-same-length c = search needs
-
--- src/writer.rt:134:9
 returns-3 : tie.Need-returns-3
-returns-3 c = ?
+returns-3 c =
+    let a = c .before .before .before .before .before .before .before .before .before .before .before .before .before .before .args in
+    walks-known flag (λ f. listWords Index) (supersLead .print) false (listBytes Index .print) (0x50 ∷ []) (now (a .words)) (a .at) (a .at + 1) (now (a .out)) (a .s) _ _ _ _
+    (one-read flag false 0 tt refl (now (a .words)) (a .at) (c .before .before .before .before .before .before .before .before .before .before .before .if1 .left) (c .before .before .before .before .before .before .before .before .if3 .taken)) (λ x q e. refl) (c .before .before .before .before .before .before .append-byte .ensures) (c .before .before .walk-list .ensures)
 
--- src/writer.rt:137:9
 returns-4 : tie.Need-returns-4
-returns-4 c = ?
+returns-4 c =
+    let a = c .before .before .before .before .before .before .before .args in
+    walks-no supersWords (supersLead .print) (λ x. 9) (now (a .words)) (a .at) (now (a .out)) (a .s) _ (rw (no-flag (now (a .words)) (a .at) (c .before .before .before .before .if1 .left) (c .before .if3 .left) (c .if4 .taken)))
 
--- src/writer.rt:139:14
-add-if5 : tie.Need-add-if5
-add-if5 c = search needs
-
--- src/writer.rt:139:8
-mul-if5 : tie.Need-mul-if5
-mul-if5 c = search needs
-
--- src/writer.rt:139:8
-shared-slice-read-if5 : tie.Need-shared-slice-read-if5
-shared-slice-read-if5 c = search needs
-
--- src/writer.rt:140:26
-add-t20 : tie.Need-add-t20
-add-t20 c = search needs
-
--- src/writer.rt:140:9
 returns-5 : tie.Need-returns-5
-returns-5 c = ?
+returns-5 c =
+    let a = c .before .before .before .before .before .before .before .before .before .args in
+    walks-got supersWords (supersLead .print) (λ x. 9) (now (a .words)) (a .at) (now (a .out)) (a .s) _ (true, []) (a .at + 2) _
+    (no-supers (now (a .words)) (a .at) (omega (arith, c .before .before .before .before .before .if2 .left, c .before .before .before .before .before .before .if1 .left)) (c .before .before .if4 .left) (c .if5 .taken)) (omega (arith, c .before .before .before .before .before .if2 .left, c .before .before .before .before .before .before .if1 .left))
+    (adds-nil (now (a .out)) (a .s))
 
--- src/writer.rt:142:9
-append-byte-requires-2 : tie.Need-append-byte-requires-2
-append-byte-requires-2 c κs = search needs
-
--- src/writer.rt:143:37
-add-walk-list-2 : tie.Need-add-walk-list-2
-add-walk-list-2 c = search needs
-
--- src/writer.rt:143:5
-walk-list-requires-2 : tie.Need-walk-list-requires-2
-walk-list-requires-2 c κs = search needs
-
--- src/writer.rt:122:1
-same-length-2 : tie.Need-same-length-2
-same-length-2 c = search needs
-
--- src/writer.rt:122:1
 returns-6 : tie.Need-returns-6
-returns-6 c = ?
+returns-6 c =
+    let a = c .before .before .before .before .before .before .before .before .before .before .before .before .before .before .before .before .before .args in
+    walks-known flag (λ f. listWords Index) (supersLead .print) true (listBytes Index .print) (0x4F ∷ []) (now (a .words)) (a .at) (a .at + 1) (now (a .out)) (a .s) _ _ _ _
+    (one-read flag true 1 tt refl (now (a .words)) (a .at) (c .before .before .before .before .before .before .before .before .before .before .before .before .before .before .if1 .left) (c .before .before .before .before .before .before .before .before .before .before .if4 .left))
+    (λ x q e. some-print x (not-empty (now (a .words)) (a .at + 1) (omega (arith, c .before .before .before .before .before .before .before .before .before .before .before .before .before .if2 .left, c .before .before .before .before .before .before .before .before .before .before .before .before .before .before .if1 .left)) (c .before .before .before .before .before .before .before .before .if5 .left) x q e)) (c .before .before .before .before .before .before .append-byte2 .ensures) (c .before .before .walk-list2 .ensures)
 
 pub walk-supers-spec : {M : Type 1} → statement M
 walk-supers-spec =
     tie.close
     (tie.spec
     returns
-    sub-if2
+    (λ c. search needs)
     returns-2
-    mul-f
-    shared-slice-read-f
-    append-byte-requires
-    add-walk-list
-    walk-list-requires
-    same-length
+    (λ c. search needs)
+    (λ c. search needs)
+    (λ c κs. search needs)
+    (λ c. search needs)
+    (λ c κs. search needs)
+    (λ c. search needs)
     returns-3
     returns-4
-    add-if5
-    mul-if5
-    shared-slice-read-if5
-    add-t20
+    (λ c. search needs)
+    (λ c. search needs)
+    (λ c. search needs)
+    (λ c. search needs)
     returns-5
-    append-byte-requires-2
-    add-walk-list-2
-    walk-list-requires-2
-    same-length-2
+    (λ c κs. search needs)
+    (λ c. search needs)
+    (λ c κs. search needs)
+    (λ c. search needs)
     returns-6)
