@@ -4,6 +4,7 @@ pub mod Format
 pub mod Basic
 pub mod Combine
 pub mod Alternatives
+pub mod Agree
 pub mod Lists
 pub mod Sized
 pub mod Runs

@@ -3,5 +3,6 @@ pub mod Abstract
 pub mod Words
 pub mod Bytes
 pub mod Vals
+pub mod Agree
 pub mod Answers
 pub mod Examples
