@@ -125,6 +125,15 @@ pub bit-small : (b : Bool) → bit b < 2
 bit-small true = lit< tt
 bit-small false = lit< tt
 
+pub bit-one : (n : ℕ) → n < 2 → bit (eqb n 1) ≡ n
+bit-one zero h = refl
+bit-one (suc zero) h = refl
+bit-one (suc (suc n)) h = omega arith
+
+pub eqb-bit : (b : Bool) → eqb (bit b) 1 ≡ b
+eqb-bit true = refl
+eqb-bit false = refl
+
 pub bit-full : (b : Bool) → find bit (false ∷ true ∷ []) (bit b) ≡ some b
 bit-full true = refl
 bit-full false = refl

@@ -31,15 +31,6 @@ module _ (w : List ℕ) (at : ℕ) (h : at + 2 ≤ length w) where
       ap (refWords .parse) (drop-two w at h) ∙ ref-words-at (getD w at 0) (getD w (at + 1) 0) (drop (at + 2) w) p q
       ∙ ap (λ (o : Option RefType). fromOption o (drop (at + 2) w)) e
 
-  pub unused-two : getD w at 0 ≡ 0 → getD w (at + 1) 0 ≡ 0 → unused .parse (drop at w) ≡ got tt (drop (at + 2) w)
-  unused-two p q = rw (drop-two w at h, p, q)
-
-  pub used-first : (getD w at 0 ≡ 0 → ⊥) → unused .parse (drop at w) ≡ fail
-  used-first n = rw (drop-two w at h, ne-eqb (getD w at 0) 0 n)
-
-  pub used-second : getD w at 0 ≡ 0 → (getD w (at + 1) 0 ≡ 0 → ⊥) → unused .parse (drop at w) ≡ fail
-  used-second p n = rw (drop-two w at h, p, ne-eqb (getD w (at + 1) 0) 0 n)
-
 -- ---- a code and two unused words
 
 module _ {A : Type 0} (code : A → ℕ) (l : List A) (small : (a : A) → code a < 256) (full : (a : A) → find code l (code a) ≡ some a) (k : ℕ) (s : List ℕ) where

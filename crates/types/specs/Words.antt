@@ -4,14 +4,14 @@ use mathlib.Core.Path.{_≡_, refl, sym, _∙_, ap, subst}
 use mathlib.Core.Option.{Option, none, some, Option·map, Option·none-ne-some}
 use mathlib.Core.Bool.{Bool, true, false, cond}
 use mathlib.Core.List.{List, _∷_}
-use Prim.Native.Nat.{ℕ, zero, suc, _+_, _*_, _/_, _%_, _^_, _<_, _≤_}
+use Prim.Native.Nat.{ℕ, _+_, _*_, _/_, _%_, _^_, _<_, _≤_}
 use native.Mathlib.Omega.{arith}
 use lib.Dec.{lit<, eqb, ltb}
 use lib.Bits.{bitAnd, and-mask}
 use borrow.Author.Tests.{ltb-true, lt-ltb, le-ltb, eqb-true, ne-eqb}
 use Rattle.format.specs.Parsed.{fromOption}
 use Rattle.format.specs.Format.{Format}
-use Rattle.format.specs.Basic.{find, find-only, via, bit, bit-small}
+use Rattle.format.specs.Basic.{find, find-only, via, bit, bit-small, bit-one, eqb-bit}
 use Rattle.format.specs.Combine.{pair}
 use Rattle.texts.specs.Words.{word}
 use Rattle.types.specs.Abstract.{abstracts, kindOf, kind-small, kind-full}
@@ -84,15 +84,6 @@ refOf w =
     cond (ltb (w .0) 64)
     (Option·map (λ t. record { nullable = eqb (w .0 / 16 % 2) 1; «heap_type» = t }) (heapOf (w .0 % 16) (eqb (w .0 / 32) 1) (w .1)))
     none
-
-bit-one : (n : ℕ) → n < 2 → bit (eqb n 1) ≡ n
-bit-one zero h = refl
-bit-one (suc zero) h = refl
-bit-one (suc (suc n)) h = omega arith
-
-eqb-bit : (b : Bool) → eqb (bit b) 1 ≡ b
-eqb-bit true = refl
-eqb-bit false = refl
 
 pub ref-head-small : (r : RefType) → refTo r .0 < 2 ^ 32
 ref-head-small r =

@@ -6,9 +6,8 @@ use Prim.Native.Nat.{_+_, _≤_}
 use native.Mathlib.Omega.{arith}
 use lib.ListN.{length}
 use Rattle.format.specs.Walk.{walks-no, walks-got}
-use Rattle.types.specs.Vals.{unused}
+use Rattle.types.specs.Vals.{unused, unused-two, used-first, used-second}
 use Rattle.format.specs.Read.{too-few}
-use Rattle.types.proofs.Words.{unused-two, used-first, used-second}
 use borrow.Author.Needs.{needs}
 use Rattle.types.proofs.writer.walk_unused.Statement.{statement}
 use Rattle.types.proofs.writer.walk_unused.Tie as tie

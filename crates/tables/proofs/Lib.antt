@@ -1,0 +1,3 @@
+-- What the proofs of `tables` share.
+pub mod Limits
+pub mod Tables

@@ -1,0 +1,153 @@
+// Reading tables and their like: what begins at a place of some bytes, and its words.
+use format::Done;
+use format::Walk;
+use format::append_word;
+use numbers::ReadU32;
+use numbers::ReadU64;
+use texts::Span;
+use texts::TextAt;
+use texts::append_span;
+use texts::find_expr;
+use types::read_mutable;
+use types::read_ref;
+use types::read_val;
+ghost use mathlib.Core.List.{List, []};
+ghost use Prim.Native.Nat.{_≤_};
+ghost use lib.ListN.{length};
+ghost use Rattle.format.specs.Combine.{pair};
+ghost use Rattle.format.specs.Walk.{Walks};
+ghost use Rattle.leb128.specs.Formats.{u64};
+ghost use Rattle.exprs.specs.Laws.{expr};
+ghost use Rattle.tables.specs.Limits.{number64, sizesWords, sizesBytes, limitsWords, limitsBytes};
+ghost use Rattle.tables.specs.TableType.{tableWords, tableBytes, memoryWords, memoryBytes};
+ghost use Rattle.tables.specs.GlobalType.{globalWords, globalBytes};
+ghost use Rattle.tables.specs.TagType.{tagWords, tagBytes};
+ghost use Rattle.tables.specs.Table.{bareWords, bytes as bytesOf};
+ghost use Rattle.tables.specs.Located.{recordAt, initAt};
+
+// A 64-bit number, as low word, high word.
+fn read_size(b: &[u8], at: usize, out: &mut [u32], s: Done) -> Walk
+    ensures { λ r. ⌜ Walks u64 (number64 .print) (λ x. 9) (now (b .entry)) at (now (out .entry)) s (now (out .exit)) r ⌝ }
+{
+    let ReadU64::Value(v, p) = numbers::decode_u64(b, at) else {
+        return Walk::No;
+    };
+    let t = append_word((v & 0xFFFF_FFFF) as u32, out, s);
+    Walk::Got(p, append_word((v >> 32) as u32, out, t))
+}
+
+// The minimum, and the maximum if there is one.
+fn read_sizes(maximum: bool, b: &[u8], at: usize, out: &mut [u32], s: Done) -> Walk
+    ensures { λ r. ⌜ Walks (sizesBytes maximum) (sizesWords maximum .print) (λ x. 9) (now (b .entry)) at (now (out .entry)) s (now (out .exit)) r ⌝ }
+{
+    let Walk::Got(p, t) = read_size(b, at, out, s) else {
+        return Walk::No;
+    };
+    if maximum {
+        return read_size(b, p, out, t);
+    }
+    let none = Span { start: 0, len: 0 };
+    Walk::Got(p, append_span(none, out, t))
+}
+
+// Flags: bit 0 says that there is a maximum, bit 1 shared, bit 2 64-bit.
+fn read_limits(b: &[u8], at: usize, out: &mut [u32], s: Done) -> Walk
+    ensures { λ r. ⌜ Walks limitsBytes (limitsWords .print) (λ x. 9) (now (b .entry)) at (now (out .entry)) s (now (out .exit)) r ⌝ }
+{
+    if b.len() <= at {
+        return Walk::No;
+    }
+    let flags = b[at];
+    if flags >> 3 != 0 {
+        return Walk::No;
+    }
+    let t = append_word(flags as u32, out, s);
+    read_sizes(flags & 1 == 1, b, at + 1, out, t)
+}
+
+pub fn read_memory_type(b: &[u8], at: usize, out: &mut [u32], s: Done) -> Walk
+    ensures { λ r. ⌜ Walks memoryBytes (memoryWords .print) (λ x. 9) (now (b .entry)) at (now (out .entry)) s (now (out .exit)) r ⌝ }
+{
+    read_limits(b, at, out, s)
+}
+
+pub fn read_table_type(b: &[u8], at: usize, out: &mut [u32], s: Done) -> Walk
+    ensures { λ r. ⌜ Walks tableBytes (tableWords .print) (λ x. 9) (now (b .entry)) at (now (out .entry)) s (now (out .exit)) r ⌝ }
+{
+    let Walk::Got(p, t) = read_ref(b, at, out, s) else {
+        return Walk::No;
+    };
+    read_limits(b, p, out, t)
+}
+
+pub fn read_global_type(b: &[u8], at: usize, out: &mut [u32], s: Done) -> Walk
+    ensures { λ r. ⌜ Walks globalBytes (globalWords .print) (λ x. 9) (now (b .entry)) at (now (out .entry)) s (now (out .exit)) r ⌝ }
+{
+    let Walk::Got(p, t) = read_val(b, at, out, s) else {
+        return Walk::No;
+    };
+    read_mutable(b, p, out, t)
+}
+
+// 00 says that it is an exception.
+pub fn read_tag_type(b: &[u8], at: usize, out: &mut [u32], s: Done) -> Walk
+    ensures { λ r. ⌜ Walks tagBytes (tagWords .print) (λ x. 9) (now (b .entry)) at (now (out .entry)) s (now (out .exit)) r ⌝ }
+{
+    if b.len() <= at {
+        return Walk::No;
+    }
+    if b[at] != 0 {
+        return Walk::No;
+    }
+    let ReadU32::Value(x, p) = numbers::decode_u32(b, at + 1) else {
+        return Walk::No;
+    };
+    Walk::Got(p, append_word(x, out, s))
+}
+
+// A table type, and two unused words behind its own.
+fn read_bare(b: &[u8], at: usize, out: &mut [u32], s: Done) -> Walk
+    ensures { λ r. ⌜ Walks tableBytes (bareWords .print) (λ x. 9) (now (b .entry)) at (now (out .entry)) s (now (out .exit)) r ⌝ }
+{
+    let Walk::Got(p, t) = read_table_type(b, at, out, s) else {
+        return Walk::No;
+    };
+    let none = Span { start: 0, len: 0 };
+    Walk::Got(p, append_span(none, out, t))
+}
+
+// A table type, and the expression of its initial value.
+fn read_init(b: &[u8], at: usize, out: &mut [u32], s: Done) -> Walk
+    requires { ⌜ length (now b) ≤ 65536 ⌝ }
+    ensures { λ r. ⌜ Walks (pair tableBytes expr) (initAt at) (λ x. 9) (now (b .entry)) at (now (out .entry)) s (now (out .exit)) r ⌝ }
+{
+    let Walk::Got(p, t) = read_table_type(b, at, out, s) else {
+        return Walk::No;
+    };
+    let TextAt::At(v) = find_expr(b, p) else {
+        return Walk::No;
+    };
+    Walk::Got(p + v.len as usize, append_span(v, out, t))
+}
+
+// Reads the item at a place and appends the words behind the 4.
+pub fn walk_bytes(b: &[u8], at: usize, out: &mut [u32], s: Done) -> Walk
+    requires { ⌜ length (now b) ≤ 65536 ⌝ }
+    ensures { λ r. ⌜ Walks bytesOf (recordAt at) (λ x. 9) (now (b .entry)) at (now (out .entry)) s (now (out .exit)) r ⌝ }
+{
+    if b.len() <= at {
+        return Walk::No;
+    }
+    if b[at] != 0x40 {
+        let t = append_word(0, out, s);
+        return read_bare(b, at, out, t);
+    }
+    if b.len() <= at + 1 {
+        return Walk::No;
+    }
+    if b[at + 1] != 0 {
+        return Walk::No;
+    }
+    let t = append_word(1, out, s);
+    read_init(b, at + 2, out, t)
+}
