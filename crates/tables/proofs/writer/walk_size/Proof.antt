@@ -44,7 +44,7 @@ walk-size-spec =
     (λ c. search needs)
     (λ c. omega (arith, c .shared-slice-known3 .given (c .before .before .before .before .before .before .args .at + 1)))
     (λ c. search needs)
-    (λ c. omega (arith, c .shared-slice-known3 .given (c .before .before .before .before .before .before .args .at + 1)))
+    (λ c. omega (arith, c .shared-slice-known3 .given (c .before .before .before .before .before .before .args .at), c .shared-slice-known3 .given (c .before .before .before .before .before .before .args .at + 1)))
     (λ c. omega (arith, c .shared-slice-known3 .given (c .before .before .before .before .before .before .args .at), c .shared-slice-known3 .given (c .before .before .before .before .before .before .args .at + 1)))
     (λ c κs. search needs)
     (λ c. search needs)
