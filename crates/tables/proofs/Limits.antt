@@ -18,7 +18,9 @@ use Rattle.format.specs.declared.Done.{Done}
 use Rattle.format.specs.declared.Walk.{Walk}
 use Rattle.format.specs.declared.Walk.the-variants as walks
 use Rattle.texts.specs.Words.{span}
-use Rattle.tables.specs.Limits.{number64, Flags, flags, flagsTo, flags-to-of, Limits, Behind, Parts, limitsOf, limits-to-of, behind, sizes, limits}
+use Rattle.tables.specs.Number64.{number64}
+use Rattle.tables.specs.Flags.{Flags, flags, flagsTo, flags-to-of}
+use Rattle.tables.specs.Limits.{Limits, Behind, Parts, limitsOf, limits-to-of, behind, sizes, limits}
 
 -- ---- two words
 

@@ -1,7 +1,6 @@
 -- Global types (document 01, Records, Import, entity 3; Items to bytes, Table type; Core Specification 3.0, Binary Format, Types, Global Types): a value type,
 -- then mutable, 0 or 1. Shared globals are not built. Assumes nothing.
-use mathlib.Core.Path.{_≡_, refl}
-use mathlib.Core.List.{_++_}
+use mathlib.Core.Path.{refl}
 use Rattle.format.specs.Format.{Format}
 use Rattle.format.specs.Basic.{flag}
 use Rattle.format.specs.Combine.{pair, iso}

@@ -1,4 +1,6 @@
 -- Table, memory, global and tag types: words and bytes over one abstract syntax; tables, and what the table section is as a section.
+pub mod Number64
+pub mod Flags
 pub mod Limits
 pub mod TableType
 pub mod GlobalType
@@ -6,3 +8,4 @@ pub mod TagType
 pub mod Table
 pub mod Located
 pub mod Section
+pub mod Examples

@@ -1,8 +1,7 @@
 -- Table types and memory types (document 01, Records, Table and Memory type; Items to bytes, Table type; Core Specification 3.0, Binary Format, Types, Table
 -- Types and Memory Types): a table type is a reference type and limits, a memory type limits. Assumes nothing.
-use mathlib.Core.Path.{_≡_, refl}
+use mathlib.Core.Path.{refl}
 use mathlib.Core.Bool.{false}
-use mathlib.Core.List.{_++_}
 use native.Mathlib.Omega.{arith}
 use Rattle.format.specs.Format.{Format}
 use Rattle.format.specs.Combine.{pair, iso}

@@ -1,5 +1,5 @@
 -- `tables::reader::read_size` meets its contract. Assumes nothing.
-use mathlib.Core.Path.{_≡_, refl, sym, ap, _∙_}
+use mathlib.Core.Path.{refl, sym, ap, _∙_}
 use denote.Ref.{now}
 use mathlib.Core.List.{[], _∷_}
 use Prim.Native.Nat.{ℕ, _/_, _^_}
@@ -10,7 +10,7 @@ use Rattle.format.specs.Read.{told-found, told-nothing}
 use Rattle.format.specs.Walk.{walks-no, walks-got}
 use Rattle.leb128.specs.Formats.{u64}
 use Rattle.numbers.specs.Answers.{readU64}
-use Rattle.tables.specs.Limits.{number64}
+use Rattle.tables.specs.Number64.{number64}
 use borrow.Author.Needs.{needs}
 use Rattle.tables.proofs.reader.read_size.Statement.{statement}
 use Rattle.tables.proofs.reader.read_size.Tie as tie

@@ -6,7 +6,7 @@ use Rattle.format.specs.Sequence.{joins-no, joins-got}
 use Rattle.format.specs.Walk.{walks-got, got-walks}
 use Rattle.leb128.specs.Formats.{u64}
 use Rattle.types.specs.Vals.{unused}
-use Rattle.tables.specs.Limits.{number64}
+use Rattle.tables.specs.Number64.{number64}
 use Rattle.tables.proofs.Limits.{sizes-joins, behind-by}
 use borrow.Author.Needs.{needs}
 use Rattle.tables.proofs.reader.read_sizes.Statement.{statement}

@@ -6,7 +6,8 @@ use Rattle.format.specs.Read.{drop-end}
 use Rattle.format.specs.Walk.{walks-no}
 use Rattle.leb128.specs.Formats.{u64}
 use Rattle.types.specs.Vals.{unused}
-use Rattle.tables.specs.Limits.{number64, limitsWords, limitsBytes}
+use Rattle.tables.specs.Number64.{number64}
+use Rattle.tables.specs.Limits.{limitsWords, limitsBytes}
 use Rattle.tables.proofs.Limits.{limits-large, limits-walk}
 use borrow.Author.Needs.{needs}
 use Rattle.tables.proofs.writer.walk_limits.Statement.{statement}

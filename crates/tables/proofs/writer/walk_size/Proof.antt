@@ -6,7 +6,7 @@ use lib.ListN.{length, getD}
 use Rattle.format.specs.Read.{too-few}
 use Rattle.format.specs.Walk.{walks-no, walks-got}
 use Rattle.leb128.specs.Formats.{u64}
-use Rattle.tables.specs.Limits.{number64}
+use Rattle.tables.specs.Number64.{number64}
 use Rattle.tables.proofs.Limits.{number-two}
 use borrow.Author.Needs.{needs}
 use Rattle.tables.proofs.writer.walk_size.Statement.{statement}

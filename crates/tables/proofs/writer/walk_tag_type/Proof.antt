@@ -1,5 +1,4 @@
 -- `tables::writer::walk_tag_type` meets its contract. Assumes nothing.
-use mathlib.Core.Path.{_≡_}
 use denote.Ref.{now}
 use Prim.Native.Nat.{_+_, _^_}
 use native.Mathlib.Omega.{arith}

@@ -2,8 +2,7 @@
 use mathlib.Core.Path.{refl}
 use mathlib.Core.List.{[], _∷_}
 use denote.Ref.{now}
-use Prim.Native.Nat.{ℕ, _+_, min}
-use native.Mathlib.Omega.{arith}
+use Prim.Native.Nat.{_+_}
 use Rattle.format.specs.Combine.{pair}
 use Rattle.format.specs.Count.{adds-nil, adds-seq}
 use Rattle.format.specs.Read.{drop-end}
