@@ -88,18 +88,22 @@ joins-map {A} {B} {C} {D} P f g Q f′ g′ X f″ g″ Y f‴ g‴ h e ef eg J 
     go fail = refl
     go (got a r) = map-map h (J .join a) (Q r)
 
--- a pair, with no refusals; and what is made of one: what most types are
+-- a pair
+pub pair-plain : {A B : Type 0} (F : Format A) (G : Format B) (s : List ℕ) → pair F G .parse s ≡ bind (F .parse s) (λ a r. map (λ b. (a, b)) (G .parse r))
+pair-plain {A} {B} F G s = go (F .parse s)
+  where
+    in-it : (a : A) (m : Parsed B) → bind {B = A × B} m (λ b t. got (a, b) t) ≡ map {B = A × B} (λ b. (a, b)) m
+    in-it a fail = refl
+    in-it a (got b t) = refl
+
+    go : (m : Parsed A) → bind {B = A × B} m (λ a r. bind (G .parse r) (λ b t. got (a, b) t)) ≡ bind {B = A × B} m (λ a r. map (λ b. (a, b)) (G .parse r))
+    go fail = refl
+    go (got a r) = in-it a (G .parse r)
+
+-- one with no refusals; and what is made of one: what most types are
 module _ {A B : Type 0} (F : Format A) (f : A → List ℕ) (G : Format B) (f′ : B → List ℕ) where
   pub pair-joins : Joins (F .parse) f (λ a. 9) (G .parse) f′ (λ b. 9) (pair F G .parse) (λ p. f (p .0) ++ f′ (p .1)) (λ c. 9)
-  pair-joins = record { ends = leaves F; join = λ a b. (a, b); reads = λ s. go (F .parse s); writes = λ a b. refl; draws = λ a b. refl }
-    where
-      in-it : (a : A) (m : Parsed B) → bind {B = A × B} m (λ b t. got (a, b) t) ≡ map {B = A × B} (λ b. (a, b)) m
-      in-it a fail = refl
-      in-it a (got b t) = refl
-
-      go : (m : Parsed A) → bind {B = A × B} m (λ a r. bind (G .parse r) (λ b t. got (a, b) t)) ≡ bind {B = A × B} m (λ a r. map (λ b. (a, b)) (G .parse r))
-      go fail = refl
-      go (got a r) = in-it a (G .parse r)
+  pair-joins = record { ends = leaves F; join = λ a b. (a, b); reads = pair-plain F G; writes = λ a b. refl; draws = λ a b. refl }
 
   pub joins : {C : Type 0} (X : Format C) (f″ : C → List ℕ) (h : A × B → C) → ((s : List ℕ) → X .parse s ≡ map h (pair F G .parse s))
       → ((a : A) (b : B) → f a ++ f′ b ≡ f″ (h (a, b))) → Joins (F .parse) f (λ a. 9) (G .parse) f′ (λ b. 9) (X .parse) f″ (λ c. 9)

@@ -1,12 +1,14 @@
 -- `tables::writer::walk_tag_type` meets its contract. Assumes nothing.
+use mathlib.Core.Path.{ap}
 use denote.Ref.{now}
-use Prim.Native.Nat.{_+_, _^_}
+use Prim.Native.Nat.{_+_}
 use native.Mathlib.Omega.{arith}
 use lib.ListN.{getD}
-use borrow.Author.Tests.{lt-ltb}
+use Rattle.format.specs.Parsed.{map}
 use Rattle.format.specs.Count.{adds-seq}
-use Rattle.format.specs.Read.{drop-more, drop-end}
+use Rattle.format.specs.Read.{drop-end}
 use Rattle.format.specs.Walk.{walks-no, walks-got}
+use Rattle.texts.specs.Words.{word-at}
 use Rattle.tables.specs.TagType.{exceptionOf, tagWords, tagBytes}
 use borrow.Author.Needs.{needs}
 use Rattle.tables.proofs.writer.walk_tag_type.Statement.{statement}
@@ -21,7 +23,7 @@ returns-2 c =
     let w = now (a .words) in
     let x = getD w (a .at) 0 in
     walks-got tagWords (tagBytes .print) (λ x. 9) w (a .at) (now (a .out)) (a .s) _ (exceptionOf x) (a .at + 1) _
-    (rw (drop-more w (a .at) (c .before .before .before .before .before .before .before .before .before .if1 .left), lt-ltb x (2 ^ 32) (omega (arith, c .before .before .before .before .before .before .before .before .before .before .before .shared-slice-known .given (a .at))))) (omega (arith, c .before .before .before .before .before .before .before .before .before .if1 .left)) (adds-seq (c .before .before .before .before .before .before .before .append-byte .ensures) (c .before .before .append-u32 .ensures))
+    (ap (map exceptionOf) (word-at w (a .at) (c .before .before .before .before .before .before .before .before .before .if1 .left) (omega (arith, c .before .before .before .before .before .before .before .before .before .before .before .shared-slice-known .given (a .at))))) (omega (arith, c .before .before .before .before .before .before .before .before .before .if1 .left)) (adds-seq (c .before .before .before .before .before .before .before .append-byte .ensures) (c .before .before .append-u32 .ensures))
 
 pub walk-tag-type-spec : {M : Type 1} → statement M
 walk-tag-type-spec =
