@@ -1,10 +1,13 @@
 -- Two formats that print the same values, and that formats made of such ones do too. Assumes nothing.
 use mathlib.Core.Logic.{_↔_, _⊎_, inl, inr}
 use mathlib.Core.Bool.{Bool}
+use mathlib.Core.List.{List, [], _∷_}
 use Prim.Native.Nat.{ℕ}
+use lib.ListN.{length}
 use Rattle.format.specs.Format.{Format}
 use Rattle.format.specs.Combine.{pair}
 use Rattle.format.specs.Alternatives.{altOk}
+use Rattle.format.specs.Lists.{All, many}
 
 abbrev pub Agree : {A : Type 0} → Format A → Format A → Type 0
 Agree {A} F G = (a : A) → F .Ok a ↔ G .Ok a
@@ -20,3 +23,15 @@ module _ {A B : Type 0} (F F′ : Format A) (G G′ : Format B) (f : Agree F F�
   pub alt-agree : (p q : ℕ → Bool) (w : A ⊎ B) → altOk p F G w ↔ altOk q F′ G′ w
   alt-agree p q (inl a) = f a
   alt-agree p q (inr b) = g b
+
+-- lists whose counts agree
+pub many-agree : {A : Type 0} (N N′ : Format ℕ) (F F′ : Format A) → Agree N N′ → Agree F F′ → Agree (many N F) (many N′ F′)
+many-agree {A} N N′ F F′ n f xs = (λ h. (n (length xs) .0 (h .0), there xs (h .1)), λ h. (n (length xs) .1 (h .0), back xs (h .1)))
+  where
+    there : (xs : List A) → All (F .Ok) xs → All (F′ .Ok) xs
+    there [] h = tt
+    there (a ∷ xs) h = (f a .0 (h .0), there xs (h .1))
+
+    back : (xs : List A) → All (F′ .Ok) xs → All (F .Ok) xs
+    back [] h = tt
+    back (a ∷ xs) h = (f a .1 (h .0), back xs (h .1))

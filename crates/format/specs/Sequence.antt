@@ -113,7 +113,7 @@ module _ {A B : Type 0} (F : Format A) (f : A → List ℕ) (G : Format B) (f′
 
 -- a value that is there, and one whose format depends on it: pre was appended of the first, and a walk over the second is one over both
 module _ {A : Type 0} {B : A → Type 0} (F : Format A) (G : (a : A) → Format (B a)) where
-  dep-known : (a : A) (s r : List ℕ) → F .parse s ≡ got a r → dep F G .parse s ≡ map {B = (a : A) × B a} (λ b. (a, b)) (G a .parse r)
+  pub dep-known : (a : A) (s r : List ℕ) → F .parse s ≡ got a r → dep F G .parse s ≡ map {B = (a : A) × B a} (λ b. (a, b)) (G a .parse r)
   dep-known a s r e = rw e (go (G a .parse r))
     where
       go : (m : Parsed (B a)) → bind {B = (a : A) × B a} m (λ b t. got (a, b) t) ≡ map {B = (a : A) × B a} (λ b. (a, b)) m

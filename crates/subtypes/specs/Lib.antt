@@ -2,3 +2,4 @@
 pub mod Composite
 pub mod SubType
 pub mod RecGroup
+pub mod Section

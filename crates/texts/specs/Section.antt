@@ -3,7 +3,7 @@
 use mathlib.Core.Path.{_≡_, refl, ap}
 use mathlib.Core.Logic.{_↔_}
 use mathlib.Core.Bool.{cond}
-use mathlib.Core.List.{List, _++_}
+use mathlib.Core.List.{List, [], _++_}
 use Prim.Native.Nat.{ℕ, suc, _≤_}
 use lib.Dec.{leb}
 use lib.ListN.{length}
@@ -11,6 +11,7 @@ use borrow.Author.Tests.{le-leb}
 use Rattle.format.specs.Parsed.{Parsed, fail, got, bind}
 use Rattle.format.specs.Format.{Format}
 use Rattle.format.specs.Lists.{All}
+use Rattle.format.specs.Agree.{Agree}
 use Rattle.format.specs.Basic.{tag}
 use Rattle.format.specs.Combine.{guard}
 use Rattle.texts.specs.Text.{Kind}
@@ -34,6 +35,22 @@ pub record Section (A B : Type 0) : Type 1 where
   -- a record whose texts are allowed has an item, and the record of that is of as many words
   pub resolve-ok : (t : List ℕ) (a : A) → words .Ok a → All (Allowed t) (texts a) → bytes .Ok (resolve t a)
   pub same-words : (t : List ℕ) (a : A) (n : ℕ) → length (words .print (locate n (resolve t a))) ≡ length (words .print a)
+
+-- a section whose records have no texts: its items are the same values
+abbrev pub textless : {A : Type 0} (W F : Format A) → Agree W F → Section A A
+textless W F same =
+    record {
+      words = W;
+      texts = λ a. [];
+      bytes = F;
+      resolve = λ t a. a;
+      locate = λ n a. a;
+      located = λ q r x ok. refl;
+      locate-ok = λ q r x ok h. same x .1 ok;
+      locate-texts = λ q r x ok. tt;
+      resolve-ok = λ t a ok h. same a .0 ok;
+      same-words = λ t a n. refl;
+    }
 
 -- behind the section's id, a record's first word
 abbrev pub tagged : {A B : Type 0} → ℕ → Section A B → Section A B
