@@ -52,6 +52,11 @@ module _ {A : Type 0} (k : ℕ) (F : Format A) where
 abbrev pub empty : Format (Unit {0})
 empty = record { Ok = λ a. Unit {0}; print = λ a. []; parse = λ s. got tt s; back = λ a r h. refl; only = λ s a r e. (tt, got-rest e) }
 
+-- no value at all
+abbrev pub never : Format ⊥
+never =
+    record { Ok = λ a. Unit {0}; print = λ a. absurd a; parse = λ s. fail; back = λ a r h. absurd a; only = λ s a r e. absurd (fail-got _ a r refl e) }
+
 -- the one number k, which says nothing
 abbrev pub lit : ℕ → Format (Unit {0})
 lit k = tag k empty

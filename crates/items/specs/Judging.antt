@@ -14,29 +14,24 @@ use Rattle.frames.specs.declared.SectionId.{SectionId}
 use Rattle.frames.specs.declared.SectionId.the-variants.{Data}
 use Rattle.texts.specs.Judge.{itemMost, recordIn, why, itemIn, record-inv, fine}
 use Rattle.texts.specs.declared.Span.{Span}
-use Rattle.data.specs.Segment as segments
-use Rattle.items.specs.Record.{Record, segment, sectionOf, words, records}
+use Rattle.items.specs.Record.{Record, section, words, records}
 use Rattle.items.specs.declared.Judged.{Judged}
 use Rattle.items.specs.declared.Judged.the-variants.{Refused, Length}
 
 -- its section; where there is no record, any
 abbrev pub sectionOr : Option (Record Span) → SectionId
 sectionOr none = Data
-sectionOr (some x) = sectionOf x
+sectionOr (some x) = x .0
 
 abbrev pub sectionIn : List ℕ → SectionId
 sectionIn w = sectionOr (recordIn records w)
 
 -- a record's first word is its section's id
-first-is : (x : Record Span) → (t : List ℕ) × (words .print x ≡ idOf (sectionOf x) ∷ t)
-first-is (segment x) = (segments.words .print x, refl)
-
 pub first-word : (w t : List ℕ) → why records w t ≡ 0 → (0 < length w) × (getD w 0 0 ≡ idOf (sectionIn w))
 first-word w t e =
     let f = fine records w t e in
     let p = record-inv records w (f .value) (f .is) in
-    let i = first-is (f .value) in
-    let q : w ≡ idOf (sectionOf (f .value)) ∷ i .0 = p .1 ∙ i .1 in
+    let q : w ≡ idOf (f .value .0) ∷ section (f .value .0) .words .print (f .value .1) = p .1 in
     (omega (arith, ap length q), ap (λ (l : List ℕ). getD l 0 0) q ∙ ap (λ (o : Option (Record Span)). idOf (sectionOr o)) (sym (f .is)))
 
 -- the number, or the item's length

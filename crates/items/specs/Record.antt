@@ -1,45 +1,79 @@
--- Records and items of all sections (document 01, Records; Items to bytes): a record's first word is its section's id. A further section is one more case
--- of each definition. Assumes nothing.
+-- Records and items of all sections (document 01, Records; Items to bytes): a record's first word is its section's id. A further section is one more case of
+-- `Body` and of `section`; imports and elements have none yet. Assumes nothing.
 use mathlib.Core.Path.{_≡_, refl}
 use mathlib.Core.Bool.{cond}
-use mathlib.Core.List.{List, _∷_}
-use Prim.Native.Nat.{ℕ}
-use lib.Dec.{eqb}
-use Rattle.format.specs.Parsed.{Parsed, fail, map}
+use mathlib.Core.Option.{Option, none, some}
+use mathlib.Core.List.{List, [], _∷_}
+use Prim.Native.Nat.{ℕ, _<_}
+use lib.Dec.{leb, lit<}
+use lib.ListN.{length}
+use Rattle.format.specs.Parsed.{Parsed, fail, got, bind, map}
 use Rattle.format.specs.Format.{Format}
-use Rattle.format.specs.Basic.{tag}
-use Rattle.format.specs.Combine.{iso}
+use Rattle.format.specs.Basic.{find, table, never}
+use Rattle.format.specs.Combine.{dep}
+use Rattle.format.specs.Agree.{agree-same}
+use Rattle.frames.specs.Frames.{idOf}
 use Rattle.frames.specs.declared.SectionId.{SectionId}
-use Rattle.frames.specs.declared.SectionId.the-variants.{Data}
+use Rattle.frames.specs.declared.SectionId.the-variants.{Types, Imports, Tables, Elements, Data}
 use Rattle.texts.specs.Text.{Kind, lowestOf}
-use Rattle.texts.specs.Judge.{Records}
+use Rattle.texts.specs.Judge.{Records, wordsMost}
+use Rattle.texts.specs.Section.{Section, textless}
 use Rattle.texts.specs.declared.Span.{Span}
-use Rattle.data.specs.Segment as segments
+use Rattle.subtypes.specs.RecGroup.{RecGroup}
+use Rattle.subtypes.specs.Section.{typeSection}
+use Rattle.tables.specs.Table.{Table}
+use Rattle.tables.specs.Section.{tableSection}
 use Rattle.data.specs.Segment.{Segment}
-use Rattle.data.specs.Located as located
+use Rattle.data.specs.Reading.{dataSection}
 
-pub data Record (S : Type 0) : Type 0 where
-  segment : Segment S → Record S
+-- what a section's records are, over their texts
+abbrev pub Body : SectionId → Type 0 → Type 0
+Body Types S = RecGroup
+Body Imports S = ⊥
+Body Tables S = Table S
+Body Elements S = ⊥
+Body Data S = Segment S
 
-abbrev pub segmentOf : {S : Type 0} → Record S → Segment S
-segmentOf (segment x) = x
+-- their words behind the id, their items, and the way from the ones to the others
+abbrev pub section : (i : SectionId) → Section (Body i Span) (Body i (List ℕ))
+section Types = typeSection
+section Imports = textless never never (agree-same never)
+section Tables = tableSection
+section Elements = textless never never (agree-same never)
+section Data = dataSection
 
-pub segment-back : {S : Type 0} (x : Record S) → segment (segmentOf x) ≡ x
-segment-back (segment x) = refl
+abbrev pub Record : Type 0 → Type 0
+Record S = (i : SectionId) × Body i S
 
-abbrev pub sectionOf : {S : Type 0} → Record S → SectionId
-sectionOf (segment x) = Data
+-- ---- the first word
 
-abbrev pub textsOf : {S : Type 0} → Record S → List (Kind × S)
-textsOf (segment x) = segments.textsOf x
+abbrev pub ids : List SectionId
+ids = Types ∷ Imports ∷ Tables ∷ Elements ∷ Data ∷ []
+
+pub id-small : (i : SectionId) → idOf i < 12
+id-small = elim [ Types ↦ lit< tt | Imports ↦ lit< tt | Tables ↦ lit< tt | Elements ↦ lit< tt | Data ↦ lit< tt ]
+
+pub id-full : (i : SectionId) → find idOf ids (idOf i) ≡ some i
+id-full = elim [ Types ↦ refl | Imports ↦ refl | Tables ↦ refl | Elements ↦ refl | Data ↦ refl ]
+
+abbrev pub idWord : Format SectionId
+idWord = table 12 idOf ids id-small id-full
 
 -- all of a record's words
 abbrev pub words : Format (Record Span)
-words = iso (tag 11 segments.words) segmentOf segment segment-back (λ x. refl)
+words = dep idWord (λ i. section i .words)
 
--- what an add writes of a record with the text t, and the lowest refusal that its texts draw
+-- ---- what an add writes of a record with the text t, and the lowest refusal that its texts draw
+
+abbrev pub textsOf : Record Span → List (Kind × Span)
+textsOf x = section (x .0) .texts (x .1)
+
+-- the item of a record with the text t
+abbrev pub resolved : List ℕ → Record Span → Record (List ℕ)
+resolved t x = (x .0, section (x .0) .resolve t (x .1))
+
 abbrev pub itemOf : List ℕ → Record Span → List ℕ
-itemOf t (segment x) = segments.itemOf t x
+itemOf t x = section (x .0) .bytes .print (section (x .0) .resolve t (x .1))
 
 abbrev pub lowOf : List ℕ → Record Span → ℕ
 lowOf t x = lowestOf t (textsOf x)
@@ -47,10 +81,23 @@ lowOf t x = lowestOf t (textsOf x)
 abbrev pub records : Records (Record Span)
 records = record { words = words; texts = textsOf; item = itemOf }
 
--- what stands at the front of a section's bytes; other ids have no items
-abbrev pub readIn : ℕ → List ℕ → Parsed (Record (List ℕ))
-readIn id s = cond (eqb id 11) (map segment (segments.bytes .parse s)) fail
+-- ---- reading
 
 -- the record's words that reading writes: its spans point into the bytes
 abbrev pub recordOf : Record (List ℕ) → List ℕ
-recordOf (segment x) = 11 ∷ located.recordAt 0 x
+recordOf x = idOf (x .0) ∷ section (x .0) .words .print (section (x .0) .locate 0 (x .1))
+
+-- what stands at the front of a section's bytes; other ids have no items
+abbrev pub itemsOf : Option SectionId → List ℕ → Parsed (Record (List ℕ))
+itemsOf none s = fail
+itemsOf (some i) s = map (λ x. (i, x)) (section i .bytes .parse s)
+
+abbrev pub beginsIn : ℕ → List ℕ → Parsed (Record (List ℕ))
+beginsIn id s = itemsOf (find idOf ids id) s
+
+-- it is read where its record has at most 4,096 words: no record has more
+abbrev pub isShort : Record (List ℕ) → List ℕ → Parsed (Record (List ℕ))
+isShort x r = cond (leb (length (recordOf x)) wordsMost) (got x r) fail
+
+abbrev pub readIn : ℕ → List ℕ → Parsed (Record (List ℕ))
+readIn id s = bind (beginsIn id s) isShort

@@ -6,7 +6,7 @@ ghost use mathlib.Core.Path.{_≡_};
 ghost use Prim.Native.Nat.{_≤_};
 ghost use lib.ListN.{length};
 ghost use Rattle.format.specs.Walk.{Walked, Walks};
-ghost use Rattle.items.specs.Record.{words as wordsOf, itemOf, lowOf, readIn, recordOf};
+ghost use Rattle.items.specs.Record.{words as wordsOf, itemOf, lowOf, beginsIn, recordOf};
 ghost use Rattle.items.specs.Judging.{judgedOf, Puts};
 
 // Reads a record's words and appends its item.
@@ -16,7 +16,14 @@ pub fn walk_words(words: &[u32], text: &[u8], out: &mut [u8], s: Done) -> Walk
     if words.len() == 0 {
         return Walk::No;
     }
-    if words[0] == 11 {
+    let id = words[0];
+    if id == 1 {
+        return subtypes::walk_words(words, 1, out, s);
+    }
+    if id == 4 {
+        return tables::walk_words(words, 1, text, out, s);
+    }
+    if id == 11 {
         return data::walk_words(words, 1, text, out, s);
     }
     Walk::No
@@ -25,10 +32,16 @@ pub fn walk_words(words: &[u32], text: &[u8], out: &mut [u8], s: Done) -> Walk
 // Reads an item and appends its record's words.
 pub fn walk_bytes(id: u8, bytes: &[u8], out: &mut [u32], s: Done) -> Walk
     requires { ⌜ length (now bytes) ≤ 65536 ⌝ }
-    ensures { λ r. ⌜ Walked recordOf (λ x. 9) (now (bytes .entry)) (readIn id (now (bytes .entry))) (now (out .entry)) s (now (out .exit)) r ⌝ }
+    ensures { λ r. ⌜ Walked recordOf (λ x. 9) (now (bytes .entry)) (beginsIn id (now (bytes .entry))) (now (out .entry)) s (now (out .exit)) r ⌝ }
 {
+    let t = append_word(id as u32, out, s);
+    if id == 1 {
+        return subtypes::walk_bytes(bytes, 0, out, t);
+    }
+    if id == 4 {
+        return tables::walk_bytes(bytes, 0, out, t);
+    }
     if id == 11 {
-        let t = append_word(11, out, s);
         return data::walk_bytes(bytes, 0, out, t);
     }
     Walk::No
