@@ -1,12 +1,12 @@
 -- What reading an item answers and leaves, for every input (document 01, Answers by number, Reading an item: 11, 10). Assumes nothing.
 use mathlib.Core.Path.{_≡_, refl, sym, ap, _∙_}
 use mathlib.Core.Logic.{_↔_}
-use mathlib.Core.Bool.{Bool, true, false, cond, true≢false}
+use mathlib.Core.Bool.{Bool, true, false, true≢false}
 use mathlib.Core.Option.{Option, none, some}
 use mathlib.Core.List.{List, [], _∷_}
 use Prim.Native.Nat.{ℕ, _≤_, _<_}
 use native.Mathlib.Omega.{arith}
-use lib.Dec.{eqb, leb, ltb}
+use lib.Dec.{eqb, ltb}
 use lib.ListN.{length, take, drop}
 use borrow.Author.Tests.{lt-ltb, le-ltb, le-leb, lt-leb}
 use Rattle.format.specs.Parsed.{Parsed, fail, got}
@@ -14,7 +14,7 @@ use Rattle.format.specs.Read.{placeOf}
 use Rattle.format.specs.Write.{over}
 use Rattle.format.specs.Answers.{answer, NoneHolds, given-exactly, accepted-exactly, settled, settled-accepts, settled-refuses, settled-exactly, one-stands}
 use Rattle.texts.specs.Judge.{wordsMost}
-use Rattle.items.specs.Record.{Record, segment, readIn, recordOf}
+use Rattle.items.specs.Record.{Record, beginsIn, readIn, recordOf}
 use Rattle.thriftbell.specs.declared.Taken.{Taken}
 use Rattle.thriftbell.specs.declared.Taken.the-variants.{Took, Refused}
 
@@ -38,10 +38,10 @@ outcome (Refused k) ys = refused ys k
 abbrev pub frontOf : List ℕ → List ℕ
 frontOf bytes = take 65536 bytes
 
--- the record's words, and how many bytes it took; none where no item begins the bytes, or its record has more than 4,096 words
+-- the record's words, and how many bytes it took; none where no item begins the bytes
 abbrev pub readOf : List ℕ → Parsed (Record (List ℕ)) → Option (List ℕ × ℕ)
 readOf b fail = none
-readOf b (got x r) = cond (leb (length (recordOf x)) wordsMost) (some (recordOf x, placeOf b r)) none
+readOf b (got x r) = some (recordOf x, placeOf b r)
 
 abbrev pub isNothing : Option (List ℕ × ℕ) → Bool
 isNothing none = true
@@ -110,14 +110,20 @@ module _ (id : ℕ) (bytes out : List ℕ) where
   unfolding wordsIn
   no-item e = ap (readOf (frontOf bytes)) e
 
-  module _ (x : Record (List ℕ)) (r : List ℕ) (e : readIn id (frontOf bytes) ≡ got x r) where
+  pub item-read : (x : Record (List ℕ)) (r : List ℕ) → readIn id (frontOf bytes) ≡ got x r → wordsIn ≡ some (recordOf x, placeOf (frontOf bytes) r)
+  unfolding wordsIn
+  item-read x r e = ap (readOf (frontOf bytes)) e
+
+  pub none-begins : beginsIn id (frontOf bytes) ≡ fail → wordsIn ≡ none
+  none-begins e = no-item (rw e)
+
+  -- its record has at most 4,096 words, or more
+  module _ (x : Record (List ℕ)) (r : List ℕ) (e : beginsIn id (frontOf bytes) ≡ got x r) where
     pub many-words : wordsMost < length (recordOf x) → wordsIn ≡ none
-    unfolding wordsIn
-    many-words h = rw (e, lt-leb (length (recordOf x)) wordsMost h)
+    many-words h = no-item (rw (e, lt-leb (length (recordOf x)) wordsMost h))
 
     pub few-words : length (recordOf x) ≤ wordsMost → wordsIn ≡ some (recordOf x, placeOf (frontOf bytes) r)
-    unfolding wordsIn
-    few-words h = rw (e, le-leb (length (recordOf x)) wordsMost h)
+    few-words h = item-read x r (rw (e, le-leb (length (recordOf x)) wordsMost h))
 
 -- bytes behind the front do not matter
 pub only-front : (id : ℕ) (b c out : List ℕ) → frontOf b ≡ frontOf c → reading id b out ≡ reading id c out
@@ -131,14 +137,9 @@ module _ (id : ℕ) (bytes out : List ℕ) where
   unfolding wordsIn
   some-words e = go (readIn id (frontOf bytes)) e
     where
-      few : (x : Record (List ℕ)) (r : List ℕ) (t : Bool) → isNothing (cond t (some (recordOf x, placeOf (frontOf bytes) r)) none) ≡ false
-          → 0 < length (wordsOf (cond t (some (recordOf x, placeOf (frontOf bytes) r)) none))
-      few x r false e = absurd (true≢false e)
-      few (segment x) r true e = omega arith
-
       go : (m : Parsed (Record (List ℕ))) → isNothing (readOf (frontOf bytes) m) ≡ false → 0 < length (wordsOf (readOf (frontOf bytes) m))
       go fail e = absurd (true≢false e)
-      go (got x r) e = few x r (leb (length (recordOf x)) wordsMost) e
+      go (got x r) e = omega arith
 
   -- accepted, it has written some
   some-written : reading id bytes out .number ≡ 0 → reading id bytes out .words ≡ 0 → ⊥

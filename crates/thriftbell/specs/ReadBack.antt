@@ -12,11 +12,11 @@ use lib.Seq.{take-append-add}
 use Rattle.format.specs.Parsed.{Parsed, fail, got}
 use Rattle.format.specs.Read.{placeOf}
 use Rattle.frames.specs.Frames.{idOf}
-use Rattle.texts.specs.Judge.{wordsMost, recordIn, itemIn, why, record-inv, fine}
+use Rattle.texts.specs.Judge.{recordIn, itemIn, why, fine}
 use Rattle.texts.specs.declared.Span.{Span}
-use Rattle.items.specs.Record.{Record, sectionOf, records, readIn, recordOf}
-use Rattle.items.specs.Reading.{resolved, add-reads, ReadAdds, read-adds, none-begins}
-use Rattle.thriftbell.specs.Read.{frontOf, readOf, isNothing, wordsIn, reading, eleven-exactly, no-item, few-words}
+use Rattle.items.specs.Record.{Record, records, resolved, readIn, recordOf}
+use Rattle.items.specs.Reading.{add-reads, ReadAdds, read-adds, none-begins}
+use Rattle.thriftbell.specs.Read.{frontOf, readOf, isNothing, wordsIn, reading, eleven-exactly, no-item, item-read}
 
 short : (bytes : List ℕ) → length (frontOf bytes) ≤ 65536
 short bytes = simp length-take (omega arith)
@@ -24,18 +24,14 @@ short bytes = simp length-take (omega arith)
 module _ (id : ℕ) (bytes out : List ℕ) where
   -- a record begins the bytes that are looked at: an add of it writes them
   abbrev pub Begins : List ℕ → List ℕ → List ℕ → Record Span → Type 0
-  Begins w t r a = (recordIn records w ≡ some a) × (idOf (sectionOf a) ≡ id) × (why records w t ≡ 0) × (frontOf bytes ≡ itemIn records w t ++ r)
-
-  -- what was read has a record of few enough words
-  few : (x : Record (List ℕ)) (r : List ℕ) → readIn id (frontOf bytes) ≡ got x r → length (recordOf x) ≤ wordsMost
-  few x r e = let g = read-adds id (frontOf bytes) x r e (short bytes) in record-inv records (recordOf x) (g .value) (g .is) .2
+  Begins w t r a = (recordIn records w ≡ some a) × (idOf (a .0) ≡ id) × (why records w t ≡ 0) × (frontOf bytes ≡ itemIn records w t ++ r)
 
   nothing-is : (isNothing (wordsIn id bytes out) ≡ true) ↔ (readIn id (frontOf bytes) ≡ fail)
   nothing-is = (go (readIn id (frontOf bytes)) refl, λ e. ap isNothing (no-item id bytes out e))
     where
       go : (m : Parsed (Record (List ℕ))) → readIn id (frontOf bytes) ≡ m → isNothing (wordsIn id bytes out) ≡ true → m ≡ fail
       go fail e h = refl
-      go (got x r) e h = let z : false ≡ true = sym (ap isNothing (few-words id bytes out x r e (few x r e))) ∙ h in absurd (true≢false (sym z))
+      go (got x r) e h = let z : false ≡ true = sym (ap isNothing (item-read id bytes out x r e)) ∙ h in absurd (true≢false (sym z))
 
   -- 11 is given exactly if no record of the section begins them
   pub eleven-means : (reading id bytes out .number ≡ 11) ↔ ((w t r : List ℕ) (a : Record Span) → Begins w t r a → ⊥)
@@ -47,10 +43,10 @@ module _ (id : ℕ) (bytes out : List ℕ) where
 
 -- an item is read back, whatever follows it: its words, and as many bytes taken as it has
 pub read-back : (w t r out : List ℕ) (a : Record Span) → recordIn records w ≡ some a → why records w t ≡ 0
-    → wordsIn (idOf (sectionOf a)) (itemIn records w t ++ r) out ≡ some (recordOf (resolved t a), length (itemIn records w t))
+    → wordsIn (idOf (a .0)) (itemIn records w t ++ r) out ≡ some (recordOf (resolved t a), length (itemIn records w t))
 read-back w t r out a p y =
     let b = itemIn records w t in
-    let id = idOf (sectionOf a) in
+    let id = idOf (a .0) in
     let f = fine records w t y in
     let l : length b ≤ 65536 = rw (f .is) (f .fits) in
     let q = take (65536 - length b) r in
@@ -58,7 +54,7 @@ read-back w t r out a p y =
     let front : frontOf (b ++ r) ≡ b ++ q = ap (λ (n : ℕ). take n (b ++ r)) long ∙ take-append-add b r (65536 - length b) in
     let e : readIn id (frontOf (b ++ r)) ≡ got (resolved t a) q = ap (readIn id) front ∙ add-reads w t a q p y in
     let n : placeOf (frontOf (b ++ r)) q ≡ length b = ap (λ (s : List ℕ). placeOf s q) front ∙ omega (arith, length-append b q) in
-    few-words id (b ++ r) out (resolved t a) q e (few id (b ++ r) out (resolved t a) q e) ∙ ap (λ (m : ℕ). some (recordOf (resolved t a), m)) n
+    item-read id (b ++ r) out (resolved t a) q e ∙ ap (λ (m : ℕ). some (recordOf (resolved t a), m)) n
 
 -- what is read is the record of the bytes that were taken: added with the bytes as its text it writes them again, and it is the same but for where spans lie
 pub read-sound : (id : ℕ) (bytes : List ℕ) (x : Record (List ℕ)) (r : List ℕ) → readIn id (frontOf bytes) ≡ got x r → ReadAdds id (frontOf bytes) x r

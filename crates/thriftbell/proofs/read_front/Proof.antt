@@ -15,8 +15,8 @@ use Rattle.format.specs.Walk.{Walked, walked-no, walked-got}
 use Rattle.format.specs.declared.Done.{Done}
 use Rattle.format.specs.declared.Walk.{Walk}
 use Rattle.texts.specs.Judge.{wordsMost}
-use Rattle.items.specs.Record.{Record, readIn, recordOf}
-use Rattle.thriftbell.specs.Read.{frontOf, wordsIn, none-read, short-out, was-read, no-item, many-words, few-words}
+use Rattle.items.specs.Record.{Record, beginsIn, recordOf}
+use Rattle.thriftbell.specs.Read.{frontOf, wordsIn, none-read, short-out, was-read, none-begins, many-words, few-words}
 use Rattle.thriftbell.proofs.read_front.Statement.{statement}
 use Rattle.thriftbell.proofs.read_front.Tie as tie
 
@@ -28,8 +28,8 @@ returns : tie.Need-returns
 returns c =
     let a = c .before .before .before .before .before .before .before .args in
     let b = now (a .front) in
-    let e = walked-no recordOf (λ x. 9) b _ _ _ _ (readIn (a .id) b) (c .before .before .before .walk-bytes .ensures) (c .enum-told .given .1) in
-    none-read (a .id) b (now (a .out)) (no-item (a .id) b (now (a .out)) (ap (readIn (a .id)) (all-of (c .before .before .before .before .before .before .before)) ∙ e))
+    let e = walked-no recordOf (λ x. 9) b _ _ _ _ (beginsIn (a .id) b) (c .before .before .before .walk-bytes .ensures) (c .enum-told .given .1) in
+    none-read (a .id) b (now (a .out)) (none-begins (a .id) b (now (a .out)) (ap (beginsIn (a .id)) (all-of (c .before .before .before .before .before .before .before)) ∙ e))
 
 adds-of : (b : List ℕ) (m : Parsed (Record (List ℕ))) (x : Record (List ℕ)) (t old : List ℕ) (s : Done) (new : List ℕ) (r : Walk) → m ≡ got x t
     → Walked recordOf (λ x. 9) b m old s new r → (u : Done) × Adds (recordOf x) 9 old s new u
@@ -39,7 +39,7 @@ adds-of b m x t old s new r e h = let k = subst (λ (p : Parsed (Record (List �
 record Item (id : ℕ) (b : List ℕ) (end n : ℕ) : Type 0 where
   value : Record (List ℕ)
   rest : List ℕ
-  is : readIn id b ≡ got value rest
+  is : beginsIn id b ≡ got value rest
   place : placeOf b rest ≡ end
   count : n ≡ counted (length (recordOf value))
 
@@ -47,7 +47,7 @@ item : (k : tie.After-end) → let a = k .before .before .before .before .before
 item k =
     let a = k .before .before .before .before .before .before .before .args in
     let b = now (a .front) in
-    let q = walked-got recordOf (λ x. 9) b _ _ _ _ (readIn (a .id) b) (k .end .given .0 .0) (k .end .given .0 .1 .0) (k .before .before .before .walk-bytes .ensures) (k .end .given .1) in
+    let q = walked-got recordOf (λ x. 9) b _ _ _ _ (beginsIn (a .id) b) (k .end .given .0 .0) (k .end .given .0 .1 .0) (k .before .before .before .walk-bytes .ensures) (k .end .given .1) in
     record { value = q .value; rest = q .rest; is = q .is; place = q .place; count = adds-fresh (q .adds) refl refl (omega arith) .count }
 
 returns-2 : tie.Need-returns-2
@@ -56,7 +56,7 @@ returns-2 c =
     let a = k .before .before .before .before .before .before .before .args in
     let b = now (a .front) in
     let i = item k in
-    none-read (a .id) b (now (a .out)) (many-words (a .id) b (now (a .out)) (i .value) (i .rest) (ap (readIn (a .id)) (all-of (k .before .before .before .before .before .before .before)) ∙ i .is) (omega (arith, c .if1 .taken, i .count)))
+    none-read (a .id) b (now (a .out)) (many-words (a .id) b (now (a .out)) (i .value) (i .rest) (ap (beginsIn (a .id)) (all-of (k .before .before .before .before .before .before .before)) ∙ i .is) (omega (arith, c .if1 .taken, i .count)))
 
 -- its record has few enough words
 few : (f : tie.Else1) → let k = f .before .before .before in let a = k .before .before .before .before .before .before .before .args in let i = item k in
@@ -67,7 +67,7 @@ few f =
     let b = now (a .front) in
     let i = item k in
     let h : length (recordOf (i .value)) ≤ wordsMost = omega (arith, f .if1 .left, i .count) in
-    let e = few-words (a .id) b (now (a .out)) (i .value) (i .rest) (ap (readIn (a .id)) (all-of (k .before .before .before .before .before .before .before)) ∙ i .is) h in
+    let e = few-words (a .id) b (now (a .out)) (i .value) (i .rest) (ap (beginsIn (a .id)) (all-of (k .before .before .before .before .before .before .before)) ∙ i .is) h in
     (h, e ∙ ap (λ (n : ℕ). some (recordOf (i .value), n)) (ap (λ (l : List ℕ). placeOf l (i .rest)) (all-of (k .before .before .before .before .before .before .before)) ∙ i .place))
 
 returns-3 : tie.Need-returns-3
@@ -90,7 +90,7 @@ returns-4 c =
     let h = few f in
     let ws = recordOf (i .value) in
     let room : length ws ≤ length out = omega (arith, c .before .before .before .before .if2 .left, i .count, h .0) in
-    let u = adds-of b (readIn (a .id) b) (i .value) (i .rest) out _ _ _ (i .is) (c .before .before .walk-bytes2 .ensures) in
+    let u = adds-of b (beginsIn (a .id) b) (i .value) (i .rest) out _ _ _ (i .is) (c .before .before .walk-bytes2 .ensures) in
     let memory = adds-fresh (u .1) refl refl (omega arith) .bytes (omega (arith, h .0)) room in
     let count : k .end .given .0 .1 .0 .n ≡ length ws = omega (arith, i .count, h .0) in
     (λ j. record { number = 0; words = count j; taken = k .end .given .0 .0; memory = memory j }) ∙ was-read (a .id) b out ws (k .end .given .0 .0) (h .1) room
