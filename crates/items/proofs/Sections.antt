@@ -2,14 +2,14 @@
 use mathlib.Core.Path.{_≡_, refl, sym, ap, subst, _∙_}
 use mathlib.Core.Option.{Option, none, some}
 use mathlib.Core.List.{List, [], _∷_, _++_}
-use Prim.Native.Nat.{ℕ, _<_}
+use Prim.Native.Nat.{ℕ, _<_, _≤_}
 use native.Mathlib.Omega.{arith}
 use lib.ListN.{length, getD, drop}
 use Rattle.format.specs.Parsed.{Parsed, fail, map}
 use Rattle.format.specs.Format.{refuses}
 use Rattle.format.specs.Basic.{find, find-only}
 use Rattle.format.specs.Count.{Adds, adds-nil}
-use Rattle.format.specs.Read.{drop-more, one-read}
+use Rattle.format.specs.Read.{drop-more, drop-end, one-read}
 use Rattle.format.specs.Sequence.{dep-known}
 use Rattle.format.specs.Walk.{Walked, Walks, walked-as}
 use Rattle.format.specs.declared.Done.{Done}
@@ -19,13 +19,19 @@ use Rattle.frames.specs.declared.SectionId.{SectionId}
 use Rattle.frames.specs.declared.SectionId.the-variants.{Types, Imports, Tables, Elements, Data}
 use Rattle.texts.specs.Text.{lowestOf, lowest-small}
 use Rattle.texts.specs.declared.Span.{Span}
-use Rattle.items.specs.Record.{Body, section, Record, ids, id-full, idWord, words, itemOf, lowOf, recordOf, itemsOf, beginsIn}
+use Rattle.items.specs.Record.{Body, section, Record, ids, id-full, idWord, words, textsOf, itemOf, lowOf, recordOf, itemsOf, beginsIn}
+
+-- there is no word
+pub word-empty : (w : List ℕ) → length w ≤ 0 → words .parse (drop 0 w) ≡ fail
+unfolding words
+word-empty w h = rw (drop-end w 0 h)
 
 module _ (w : List ℕ) (h : 0 < length w) where
   -- the first word is a section's id
   pub word-section : (i : SectionId) → getD w 0 0 ≡ idOf i → (t old : List ℕ) (s : Done) (new : List ℕ) (r : Walk)
       → Walks (section i .words) (λ a. section i .bytes .print (section i .resolve t a)) (λ a. lowestOf t (section i .texts a)) w 1 old s new r
       → Walks words (itemOf t) (lowOf t) w 0 old s new r
+  unfolding words textsOf itemOf
   word-section i e t old s new r x =
       walked-as (λ a. section i .bytes .print (section i .resolve t a)) (λ a. lowestOf t (section i .texts a)) (itemOf t) (lowOf t) (λ a. (i, a)) [] 9 w
       (section i .words .parse (drop 1 w)) (words .parse (drop 0 w)) old s old s new r
@@ -34,6 +40,7 @@ module _ (w : List ℕ) (h : 0 < length w) where
 
   -- or none's
   pub word-none : (getD w 0 0 ≡ 1 → ⊥) → (getD w 0 0 ≡ 4 → ⊥) → (getD w 0 0 ≡ 11 → ⊥) → words .parse (drop 0 w) ≡ fail
+  unfolding words
   word-none a b c = refuses words (drop 0 w) .1 (λ x r ok e. go (x .0) (x .1) (cc (sym (drop-more w 0 h) ∙ e)))
     where
       go : (i : SectionId) → Body i Span → getD w 0 0 ≡ idOf i → ⊥
@@ -47,12 +54,14 @@ module _ (id : ℕ) (s : List ℕ) where
   -- the id is a section's
   pub byte-section : (i : SectionId) → id ≡ idOf i → (old : List ℕ) (u : Done) (cur : List ℕ) (t : Done) (new : List ℕ) (r : Walk) → Adds (id ∷ []) 9 old u cur t
       → Walks (section i .bytes) (λ x. section i .words .print (section i .locate 0 x)) (λ x. 9) s 0 cur t new r → Walked recordOf (λ x. 9) s (beginsIn id s) old u new r
+  unfolding recordOf beginsIn
   byte-section i e old u cur t new r a x =
       walked-as (λ x. section i .words .print (section i .locate 0 x)) (λ x. 9) recordOf (λ x. 9) (λ x. (i, x)) (idOf i ∷ []) 9 s (section i .bytes .parse s) (beginsIn id s) old u cur t new r
       (ap (λ (o : Option SectionId). itemsOf o s) (ap (find idOf ids) e ∙ id-full i)) (λ x q p. refl) (λ x. refl) (subst (λ (k : ℕ). Adds (k ∷ []) 9 old u cur t) e a) x
 
   -- or none's
   pub byte-none : (id ≡ 1 → ⊥) → (id ≡ 4 → ⊥) → (id ≡ 11 → ⊥) → beginsIn id s ≡ fail
+  unfolding beginsIn
   byte-none a b c = go (find idOf ids id) refl
     where
       at : (i : SectionId) → id ≡ idOf i → itemsOf (some i) s ≡ fail

@@ -28,6 +28,7 @@ sectionIn w = sectionOr (recordIn records w)
 
 -- a record's first word is its section's id
 pub first-word : (w t : List ℕ) → why records w t ≡ 0 → (0 < length w) × (getD w 0 0 ≡ idOf (sectionIn w))
+unfolding words
 first-word w t e =
     let f = fine records w t e in
     let p = record-inv records w (f .value) (f .is) in

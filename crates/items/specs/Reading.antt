@@ -15,7 +15,7 @@ use Rattle.texts.specs.Judge.{wordsMost, textMost, recordIn, itemIn, why}
 use Rattle.texts.specs.Section.{Section, tagged, readWords, readable, Among}
 use Rattle.texts.specs.Reading as reading
 use Rattle.texts.specs.declared.Span.{Span}
-use Rattle.items.specs.Record.{Body, section, Record, ids, id-full, records, resolved, recordOf, itemsOf, isShort, beginsIn, readIn}
+use Rattle.items.specs.Record.{Body, section, Record, ids, id-full, words, textsOf, itemOf, records, resolved, recordOf, itemsOf, isShort, beginsIn, readIn}
 
 -- ---- one section among all
 
@@ -23,11 +23,13 @@ module _ (i : SectionId) where
   abbrev whole : Section (Body i Span) (Body i (List ℕ))
   whole = tagged (idOf i) (section i)
 
-  abbrev whole-among : Among whole records
+  unfoldable whole-among : Among whole records
+  unfolding words textsOf itemOf
   whole-among = record { into = λ a. (i, a); ok = λ a. (λ h. h .1, λ h. (tt, h)); prints = λ a. refl; texts = λ a. refl; item = λ t a. refl }
 
   -- what is read of it is what is read of that section
   read-one : (s : List ℕ) → bind (itemsOf (some i) s) isShort ≡ map (λ x. (i, x)) (readable whole .parse s)
+  unfolding recordOf
   read-one s = go (section i .bytes .parse s)
     where
       short : (x : Body i (List ℕ)) (r : List ℕ) (c : Bool) → cond c (got (i, x) r) fail ≡ map {B = Record (List ℕ)} (λ x. (i, x)) (cond c (got x r) fail)
@@ -45,6 +47,7 @@ module _ (i : SectionId) where
 -- what was added is read, whatever follows
 pub add-reads : (w t : List ℕ) (a : Record Span) (r : List ℕ) → recordIn records w ≡ some a → why records w t ≡ 0
     → readIn (idOf (a .0)) (itemIn records w t ++ r) ≡ got (resolved t a) r
+unfolding whole-among beginsIn
 add-reads w t a r p y =
     ap (λ (o : Option SectionId). bind (itemsOf o (itemIn records w t ++ r)) isShort) (id-full (a .0))
     ∙ read-one (a .0) (itemIn records w t ++ r)
@@ -60,6 +63,7 @@ pub record ReadAdds (id : ℕ) (s : List ℕ) (x : Record (List ℕ)) (r : List 
   pub item : itemIn records (recordOf x) s ++ r ≡ s
 
 one-adds : (i : SectionId) (s : List ℕ) (x : Body i (List ℕ)) (r : List ℕ) → readable (whole i) .parse s ≡ got x r → length s ≤ textMost → ReadAdds (idOf i) s (i, x) r
+unfolding whole-among recordOf
 one-adds i s x r e h =
     let g = reading.read-adds (whole i) records (whole-among i) s x r e h in
     let o = readable (whole i) .only s x r e in
@@ -74,6 +78,7 @@ one-adds i s x r e h =
     }
 
 pub read-adds : (id : ℕ) (s : List ℕ) (x : Record (List ℕ)) (r : List ℕ) → readIn id s ≡ got x r → length s ≤ textMost → ReadAdds id s x r
+unfolding beginsIn
 read-adds id s x r e h = go (find idOf ids id) refl e
   where
     go : (o : Option SectionId) → find idOf ids id ≡ o → bind (itemsOf o s) isShort ≡ got x r → ReadAdds id s x r

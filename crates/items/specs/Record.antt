@@ -5,6 +5,7 @@ use mathlib.Core.Bool.{cond}
 use mathlib.Core.Option.{Option, none, some}
 use mathlib.Core.List.{List, [], _∷_}
 use Prim.Native.Nat.{ℕ, _<_}
+use native.Mathlib.Omega.{arith}
 use lib.Dec.{leb, lit<}
 use lib.ListN.{length}
 use Rattle.format.specs.Parsed.{Parsed, fail, got, bind, map}
@@ -60,19 +61,19 @@ abbrev pub idWord : Format SectionId
 idWord = table 12 idOf ids id-small id-full
 
 -- all of a record's words
-abbrev pub words : Format (Record Span)
+unfoldable pub words : Format (Record Span)
 words = dep idWord (λ i. section i .words)
 
 -- ---- what an add writes of a record with the text t, and the lowest refusal that its texts draw
 
-abbrev pub textsOf : Record Span → List (Kind × Span)
+unfoldable pub textsOf : Record Span → List (Kind × Span)
 textsOf x = section (x .0) .texts (x .1)
 
 -- the item of a record with the text t
 abbrev pub resolved : List ℕ → Record Span → Record (List ℕ)
 resolved t x = (x .0, section (x .0) .resolve t (x .1))
 
-abbrev pub itemOf : List ℕ → Record Span → List ℕ
+unfoldable pub itemOf : List ℕ → Record Span → List ℕ
 itemOf t x = section (x .0) .bytes .print (section (x .0) .resolve t (x .1))
 
 abbrev pub lowOf : List ℕ → Record Span → ℕ
@@ -84,15 +85,19 @@ records = record { words = words; texts = textsOf; item = itemOf }
 -- ---- reading
 
 -- the record's words that reading writes: its spans point into the bytes
-abbrev pub recordOf : Record (List ℕ) → List ℕ
+unfoldable pub recordOf : Record (List ℕ) → List ℕ
 recordOf x = idOf (x .0) ∷ section (x .0) .words .print (section (x .0) .locate 0 (x .1))
+
+pub record-some : (x : Record (List ℕ)) → 0 < length (recordOf x)
+unfolding recordOf
+record-some x = omega arith
 
 -- what stands at the front of a section's bytes; other ids have no items
 abbrev pub itemsOf : Option SectionId → List ℕ → Parsed (Record (List ℕ))
 itemsOf none s = fail
 itemsOf (some i) s = map (λ x. (i, x)) (section i .bytes .parse s)
 
-abbrev pub beginsIn : ℕ → List ℕ → Parsed (Record (List ℕ))
+unfoldable pub beginsIn : ℕ → List ℕ → Parsed (Record (List ℕ))
 beginsIn id s = itemsOf (find idOf ids id) s
 
 -- it is read where its record has at most 4,096 words: no record has more

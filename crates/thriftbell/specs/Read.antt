@@ -14,7 +14,7 @@ use Rattle.format.specs.Read.{placeOf}
 use Rattle.format.specs.Write.{over}
 use Rattle.format.specs.Answers.{answer, NoneHolds, given-exactly, accepted-exactly, settled, settled-accepts, settled-refuses, settled-exactly, one-stands}
 use Rattle.texts.specs.Judge.{wordsMost}
-use Rattle.items.specs.Record.{Record, beginsIn, readIn, recordOf}
+use Rattle.items.specs.Record.{Record, beginsIn, readIn, recordOf, record-some}
 use Rattle.thriftbell.specs.declared.Taken.{Taken}
 use Rattle.thriftbell.specs.declared.Taken.the-variants.{Took, Refused}
 
@@ -139,7 +139,7 @@ module _ (id : ℕ) (bytes out : List ℕ) where
     where
       go : (m : Parsed (Record (List ℕ))) → isNothing (readOf (frontOf bytes) m) ≡ false → 0 < length (wordsOf (readOf (frontOf bytes) m))
       go fail e = absurd (true≢false e)
-      go (got x r) e = omega arith
+      go (got x r) e = record-some x
 
   -- accepted, it has written some
   some-written : reading id bytes out .number ≡ 0 → reading id bytes out .words ≡ 0 → ⊥

@@ -1,11 +1,10 @@
 -- `items::walk_words` meets its contract: by the first word. Assumes nothing.
 use denote.Ref.{now}
 use native.Mathlib.Omega.{arith}
-use Rattle.format.specs.Read.{drop-end}
 use Rattle.format.specs.Walk.{walks-no}
 use Rattle.frames.specs.declared.SectionId.the-variants.{Types, Tables, Data}
 use Rattle.items.specs.Record.{words, itemOf, lowOf}
-use Rattle.items.proofs.Sections.{word-section, word-none}
+use Rattle.items.proofs.Sections.{word-empty, word-section, word-none}
 use borrow.Author.Needs.{needs}
 use Rattle.items.proofs.walk_words.Statement.{statement}
 use Rattle.items.proofs.walk_words.Tie as tie
@@ -13,7 +12,7 @@ use Rattle.items.proofs.walk_words.Tie as tie
 returns : tie.Need-returns
 returns c =
     let a = c .before .before .before .before .args in
-    walks-no words (itemOf (now (a .text))) (lowOf (now (a .text))) (now (a .words)) 0 (now (a .out)) (a .s) _ (rw (drop-end (now (a .words)) 0 (omega (arith, c .if1 .taken))))
+    walks-no words (itemOf (now (a .text))) (lowOf (now (a .text))) (now (a .words)) 0 (now (a .out)) (a .s) _ (word-empty (now (a .words)) (omega (arith, c .if1 .taken)))
 
 returns-2 : tie.Need-returns-2
 returns-2 c = let a = c .before .before .before .before .before .before .before .before .before .before .args in word-section (now (a .words)) (omega (arith, c .before .before .before .before .before .before .if1 .left)) Types (c .before .before .before .before .if2 .taken) (now (a .text)) (now (a .out)) (a .s) _ _ (c .before .before .walk-words .ensures)
