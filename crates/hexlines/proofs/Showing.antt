@@ -10,7 +10,7 @@ use lib.Seq.{take-all, take-at, take-nil, take-append-add, take-suc-set, length-
 use borrow.Rule.Slice.PartMut.{putMid, midOf}
 use Rattle.format.specs.Write.{Writes, over, fits-or, todo, todo-end, todo-part}
 use Rattle.format.specs.declared.Written.{Written}
-use Rattle.lines.specs.Line.{lineOf}
+use Rattle.hex.specs.Line.{lineOf}
 use Rattle.lines.specs.Done.{doing}
 use Rattle.lines.specs.Answer.{Outcome, answerLine, answered, answers-line}
 use Rattle.hexlines.specs.Input.{Kept, answerOf, ended, more, keptMost, front-tells, front-more}

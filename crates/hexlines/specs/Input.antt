@@ -12,10 +12,10 @@ use lib.Seq.{take-all}
 use borrow.Author.Tests.{eq-eqb, ne-eqb}
 use Rattle.format.specs.Write.{fits-or}
 use Rattle.format.specs.Runs.{run-back}
-use Rattle.lines.specs.Hex.{charOf, hexByte, hex-some}
-use Rattle.lines.specs.Frame.{Frame}
-use Rattle.lines.specs.Line.{lineOf}
-use Rattle.lines.specs.Held.{too-long, empty}
+use Rattle.hex.specs.Hex.{charOf, hexByte, hex-some}
+use Rattle.hex.specs.Frame.{Frame}
+use Rattle.hex.specs.Line.{lineOf}
+use Rattle.hex.specs.Held.{too-long, empty}
 use Rattle.lines.specs.Done.{Done, doing}
 use Rattle.lines.specs.Answer.{answerLine}
 

@@ -12,12 +12,12 @@ use Rattle.format.specs.Format.{Format}
 use Rattle.format.specs.Lists.{prints, times-only}
 use Rattle.format.specs.Write.{over}
 use Rattle.frames.specs.Frames.{word32}
-use Rattle.lines.specs.Hex.{lineBytes}
-use Rattle.lines.specs.Sum.{checkOf}
-use Rattle.lines.specs.Words.{wordsIn, words-long}
-use Rattle.lines.specs.Frame.{adds, finishes, word16, wordList, whole, frameOf}
-use Rattle.lines.specs.Line.{digitsMost}
-use Rattle.lines.specs.Held.{Holds, holds-none, right-sum, wrong-sum}
+use Rattle.hex.specs.Hex.{lineBytes}
+use Rattle.hex.specs.Sum.{checkOf}
+use Rattle.hex.specs.Words.{wordsIn, words-long}
+use Rattle.hex.specs.Frame.{adds, finishes, word16, wordList, whole, frameOf}
+use Rattle.hex.specs.Line.{digitsMost}
+use Rattle.hex.specs.Held.{Holds, holds-none, right-sum, wrong-sum}
 
 -- ---- the kind
 
@@ -76,26 +76,3 @@ module _ (s : List ℕ) where
         let l : length (prints (word32 .print) ws) ≡ 4 * countIn = words-long ws ∙ ap (λ (n : ℕ). 4 * n) k in
         let d : drop (4 * countIn) (drop 2 s) ≡ rest = ap (drop (4 * countIn)) p ∙ drop-at (prints (word32 .print) ws) rest (4 * countIn) l in
         (k, omega (arith, ap length p, length-append (prints (word32 .print) ws) rest, length-drop 2 s), sym d ∙ drop-drop (4 * countIn) 2 s)
-
--- ---- the bytes, and the last
-
-module _ (line xs ys b : List ℕ) (n : ℕ) (h : length line ≤ digitsMost) (e : lineBytes line ≡ some b) (m : ys ≡ over b xs) (q : n ≡ length b) (k : 0 < n)
-    (c : getD ys (n - 1) 0 < 256) where
-  last-is : getD ys (n - 1) 0 ≡ getD b (length b - 1) 0
-  last-is = ap (λ (l : List ℕ). getD l (n - 1) 0) m ∙ List·getD-append b (drop (length b) xs) 0 (n - 1) (omega arith) ∙ ap (λ (j : ℕ). getD b (j - 1) 0) q
-
-  others-are : take (n - 1) ys ≡ take (length b - 1) b
-  others-are = ap (take (n - 1)) m ∙ take-append-le (n - 1) b (drop (length b) xs) (omega arith) ∙ ap (λ (j : ℕ). take (j - 1) b) q
-
-  small : getD b (length b - 1) 0 < 256
-  small = omega (arith, last-is)
-
-  pub holds-right : getD ys (n - 1) 0 ≡ checkOf (take (n - 1) ys) → Holds line ys (n - 1)
-  holds-right z =
-      record {
-        within = omega (arith, ap length m, length-append b (drop (length b) xs));
-        frame = right-sum line h b e (omega arith) small (sym last-is ∙ z ∙ ap checkOf others-are) ∙ ap frameOf (sym others-are);
-      }
-
-  pub holds-wrong : (getD ys (n - 1) 0 ≡ checkOf (take (n - 1) ys) → ⊥) → Holds line ys 0
-  holds-wrong z = holds-none ys (wrong-sum line h b e (omega arith) small (λ w. z (last-is ∙ w ∙ ap checkOf (sym others-are))))

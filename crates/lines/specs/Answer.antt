@@ -9,8 +9,8 @@ use lib.ListN.{length, take, length-take}
 use borrow.Author.Tests.{lt-ltb, le-ltb}
 use Rattle.format.specs.Answers.{one-stands}
 use Rattle.format.specs.Write.{over}
-use Rattle.lines.specs.Hex.{hexOf, hex-long}
-use Rattle.lines.specs.Line.{lineOf}
+use Rattle.hex.specs.Hex.{hexOf, hex-long}
+use Rattle.hex.specs.Line.{lineOf}
 use Rattle.lines.specs.Done.{Done, doing, value-fits}
 use Rattle.lines.specs.declared.Reply.{Reply}
 use Rattle.lines.specs.declared.Reply.the-variants.{Line, Short}

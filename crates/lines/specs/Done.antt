@@ -19,7 +19,7 @@ use Rattle.thriftbell.specs.Add.{adding}
 use Rattle.module.specs.Module.{moduleOf}
 use Rattle.module.specs.Finish as finish
 use Rattle.module.specs.Finish.{finishing}
-use Rattle.lines.specs.Frame.{Frame, adds, finishes}
+use Rattle.hex.specs.Frame.{Frame, adds, finishes}
 use Rattle.lines.specs.declared.tell.Told.{Told}
 
 -- a number of the table, the module's length or 0; and the room used, the store and the module's buffer, afterwards

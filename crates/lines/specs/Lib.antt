@@ -1,10 +1,3 @@
--- Hex lines: their digits, their sum, the frames that they hold, and how they are answered.
-pub mod Hex
-pub mod Decode
-pub mod Sum
-pub mod Words
-pub mod Frame
-pub mod Line
-pub mod Held
+-- Hex lines: what a frame does, and how a line is answered.
 pub mod Done
 pub mod Answer

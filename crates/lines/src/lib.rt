@@ -1,11 +1,7 @@
 // Hex lines: each is answered by one line.
-mod frame;
-mod hex;
-mod sum;
 mod tell;
-mod words;
 
-use frame::frame_bytes;
+use hex::frame_bytes;
 use hex::put_answer;
 use tell::tell;
 use thriftbell::State;

@@ -1,6 +1,6 @@
 // What a frame does to the store, its state and the module's buffer.
-use crate::words::word_at;
-use crate::words::words;
+use hex::read_words;
+use hex::word_at;
 use thriftbell::Added;
 use thriftbell::Finished;
 use thriftbell::State;
@@ -11,7 +11,7 @@ ghost use mathlib.Core.Option.{some};
 ghost use Prim.Native.Nat.{_≤_};
 ghost use lib.ListN.{length};
 ghost use Rattle.frames.specs.Frames.{word32};
-ghost use Rattle.lines.specs.Frame.{adds, finishes, wordList, whole, frameOf};
+ghost use Rattle.hex.specs.Frame.{adds, finishes, wordList, whole, frameOf};
 ghost use Rattle.lines.specs.Done.{done, doing, Tells};
 
 // The number of the table, how many bytes the module has or 0, and the room used.
@@ -53,7 +53,7 @@ fn add_frame(bytes: &[u8], state: State, store: &mut [u8]) -> Told
     }
     let n = bytes[0] as usize + 256 * (bytes[1] as usize);
     let mut list = [0u32; 1024];
-    if !words(&bytes[2..], n, &mut list) {
+    if !read_words(&bytes[2..], n, &mut list) {
         return plain(12, used);
     }
     let from = 2 + 4 * n;

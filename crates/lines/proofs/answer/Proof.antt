@@ -9,9 +9,9 @@ use denote.Ref.{now}
 use borrow.Author.Needs.{needs}
 use Rattle.format.specs.Write.{Writes, over, told-length}
 use Rattle.format.specs.declared.Written.the-variants.{Length}
-use Rattle.lines.specs.Hex.{hexOf}
-use Rattle.lines.specs.Frame.{frameOf}
-use Rattle.lines.specs.Line.{lineOf}
+use Rattle.hex.specs.Hex.{hexOf}
+use Rattle.hex.specs.Frame.{frameOf}
+use Rattle.hex.specs.Line.{lineOf}
 use Rattle.lines.specs.Done.{Done, done, doing, value-fits}
 use Rattle.lines.specs.Answer.{answered, answers-short, answers-line}
 use Rattle.lines.specs.declared.tell.Told.{Told}

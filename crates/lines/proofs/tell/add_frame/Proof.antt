@@ -12,11 +12,11 @@ use borrow.Author.Needs.{needs}
 use borrow.Author.Tests.{not-true, not-false}
 use Rattle.format.specs.Parsed.{Parsed, fail, got}
 use Rattle.format.specs.Write.{rest-lent}
-use Rattle.lines.specs.Words.{wordsIn, Reads, told-words, told-missing}
-use Rattle.lines.specs.Frame.{Frame, adds, wordList, whole}
+use Rattle.hex.specs.Words.{wordsIn, Reads, told-words, told-missing}
+use Rattle.hex.specs.Frame.{Frame, adds, wordList, whole}
 use Rattle.lines.specs.Done.{done, doing, Tells}
 use Rattle.lines.specs.declared.tell.Told.{Told}
-use Rattle.lines.proofs.Reading.{words-taken}
+use Rattle.hex.specs.Words.{words-taken}
 use Rattle.lines.proofs.Framing.{countIn, no-count, words-found, text-found}
 use Rattle.lines.proofs.tell.add_frame.Statement.{statement}
 use Rattle.lines.proofs.tell.add_frame.Tie as tie
@@ -33,11 +33,11 @@ returns c =
 
 -- what reading the words tells
 read : (k : tie.After-list2) → let s = now (k .before .before .before .before .before .before .before .before .before .args .bytes) in
-    (xs : List ℕ) × (length xs ≡ 1024) × Reads (countIn s) (drop 2 s) xs (k .before .words .last .1 .1 .0) (k .before .words .result)
+    (xs : List ℕ) × (length xs ≡ 1024) × Reads (countIn s) (drop 2 s) xs (k .before .read-words .last .1 .1 .0) (k .before .read-words .result)
 read k =
     let s = now (k .before .before .before .before .before .before .before .before .before .args .bytes) in
     let e = rest-lent 2 s in
-    (_, refl, rw e at (k .before .words .ensures))
+    (_, refl, rw e at (k .before .read-words .ensures))
 
 -- there is room for all that such few bytes hold
 missing : (s xs : List ℕ) {ys : List ℕ} {r : Bool} → length xs ≡ 1024 → length s ≤ 4096 → Reads (countIn s) (drop 2 s) xs ys r → r ≡ false → wordsIn (countIn s) (drop 2 s) ≡ fail
@@ -68,11 +68,11 @@ record Found (s ys : List ℕ) : Type 0 where
   room : 2 + 4 * countIn s ≤ length s
   behind : text ≡ drop (2 + 4 * countIn s) s
 
-found : (c : tie.Else2) → Found (now (c .before .before .before .before .before .before .before .before .before .before .args .bytes)) (c .before .before .words .last .1 .1 .0)
+found : (c : tie.Else2) → Found (now (c .before .before .before .before .before .before .before .before .before .before .args .bytes)) (c .before .before .read-words .last .1 .1 .0)
 found c =
     let k = c .before in
     let s = now (k .before .before .before .before .before .before .before .before .before .args .bytes) in
-    let ys = k .before .words .last .1 .1 .0 in
+    let ys = k .before .read-words .last .1 .1 .0 in
     let t = read k in
     let (ws, rest, e, y) = told-words (t .2) (not-false _ (c .if2 .left)) in
     let h : 2 ≤ length s = omega (arith, k .before .before .before .before .before .before .if1 .left) in
@@ -95,7 +95,7 @@ returns-3 c =
     let s = now (a .bytes) in
     let f = found k in
     let z : countIn s - 0 ≡ countIn s = omega arith in
-    let words : take (countIn s - 0) (drop 0 (k .before .before .words .last .1 .1 .0)) ≡ f .words = rw z (f .listed) in
+    let words : take (countIn s - 0) (drop 0 (k .before .before .read-words .last .1 .1 .0)) ≡ f .words = rw z (f .listed) in
     let text = rest-lent (2 + 4 * countIn s) s ∙ sym (f .behind) in
     subst (λ (o : Option Frame). Tells o (a .state .used) (now (a .store)) (c .before .before .add-words .last .1 .1 .1 .0) (c .before .before .add-words .result))
     ((λ i. some (adds (words i) (text i))) ∙ sym (ap (whole adds) (f .is)))

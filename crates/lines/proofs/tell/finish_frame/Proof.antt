@@ -10,7 +10,7 @@ use Rattle.format.specs.Write.{rest-lent}
 use Rattle.frames.specs.Frames.{word32}
 use Rattle.module.specs.Finish.{outcome, finishing}
 use Rattle.module.specs.declared.Finished.{Finished}
-use Rattle.lines.specs.Frame.{finishes, whole}
+use Rattle.hex.specs.Frame.{finishes, whole}
 use Rattle.lines.specs.Done.{done, doing, finished}
 use Rattle.lines.specs.declared.tell.Told.{Told}
 use Rattle.lines.proofs.Framing.{few-fail}

@@ -7,7 +7,7 @@ use denote.Ref.{now}
 use borrow.Author.Needs.{needs}
 use Rattle.format.specs.Write.{rest-lent}
 use Rattle.frames.specs.Frames.{word32}
-use Rattle.lines.specs.Frame.{adds, finishes, wordList, whole}
+use Rattle.hex.specs.Frame.{adds, finishes, wordList, whole}
 use Rattle.lines.specs.Done.{done, doing}
 use Rattle.lines.specs.declared.tell.Told.{Told}
 use Rattle.lines.proofs.Framing.{kind-none, kind-add, kind-finish, kind-other}

@@ -1,0 +1,5 @@
+-- What the proofs of `hex` share.
+pub mod Decoding
+pub mod Printing
+pub mod Reading
+pub mod Checking
