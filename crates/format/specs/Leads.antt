@@ -11,7 +11,7 @@ use borrow.Author.Tests.{ne-eqb, eq-eqb, eqb-true}
 use Rattle.format.specs.Parsed.{Parsed, fail, got, got-rest, fail-got, bind, bind-inv, map, map-inv, fromOption, fromOption-inv}
 use Rattle.format.specs.Format.{Format}
 use Rattle.format.specs.Basic.{Part, empty}
-use Rattle.format.specs.Alternatives.{Heads, is, markTo, markOf, mark-of-to, mark-to-of}
+use Rattle.format.specs.Alternatives.{Heads, is}
 use Rattle.format.specs.Answers.{neither}
 use Rattle.format.specs.Sequence.{Joins, joins-map}
 use Rattle.format.specs.Walk.{Walked}
@@ -271,6 +271,22 @@ module _ {A : Type 0} (k : ℕ) (F : Format A) where
   -- a format behind it begins with k, or as it does alone
   pub heads-option : {B : Type 0} (G : Format B) (h : Heads G (option .begins) false) (p : ℕ → Bool) (v : Bool) → p k ≡ v → Heads G p v → Heads (led option G h) p v
   heads-option G h p v e g = heads-led option G h p v (λ x q. ap p (is-k k x q) ∙ e) g
+
+abbrev pub markTo : Bool → Option (Unit {0})
+markTo true = some tt
+markTo false = none
+
+abbrev pub markOf : Option (Unit {0}) → Bool
+markOf none = false
+markOf (some u) = true
+
+pub mark-of-to : (b : Bool) → markOf (markTo b) ≡ b
+mark-of-to true = refl
+mark-of-to false = refl
+
+pub mark-to-of : (o : Option (Unit {0})) → markTo (markOf o) ≡ o
+mark-to-of none = refl
+mark-to-of (some u) = refl
 
 module _ (k : ℕ) where
   abbrev pub mark : Lead Bool

@@ -10,7 +10,6 @@ use lib.ListN.{length, getD, drop}
 use borrow.Author.Tests.{lt-ltb, le-ltb, ne-eqb}
 use Rattle.format.specs.Parsed.{Parsed, fail, got, map, map-map, bind, fromOption}
 use Rattle.format.specs.Basic.{find, empty}
-use Rattle.format.specs.Alternatives.{markOf, preOf}
 use Rattle.format.specs.Read.{drop-more, placeOf, rest-at}
 use Rattle.leb128.specs.Formats.{u32, index}
 use Rattle.types.specs.Abstract.{abstracts, byteOf, abstractByte}
@@ -28,22 +27,10 @@ use Rattle.types.specs.declared.StorageType.the-variants.{Val}
 -- ---- an abstract heap type
 
 shared-read : (l : List ℕ) → map absOf (absBytes .parse (0x65 ∷ l)) ≡ map (λ a. Abstract true a) (abstractByte .parse l)
-shared-read l = go (abstractByte .parse l)
-  where
-    go : (m : Parsed AbstractHeapType)
-        → map absOf (map (λ p. (markOf (p .0), p .1)) (map (preOf 0x65 empty abstractByte) (map inl (bind m (λ b t. got (tt, b) t)))))
-        ≡ map (λ a. Abstract true a) m
-    go fail = refl
-    go (got a r) = refl
+shared-read l = map-map absOf (λ a. (true, a)) (abstractByte .parse l)
 
 unshared-read : (x : ℕ) (l : List ℕ) → (x ≡ 0x65 → ⊥) → map absOf (absBytes .parse (x ∷ l)) ≡ map (λ a. Abstract false a) (abstractByte .parse (x ∷ l))
-unshared-read x l n = rw (ne-eqb x 0x65 n) (go (abstractByte .parse (x ∷ l)))
-  where
-    go : (m : Parsed AbstractHeapType)
-        → map absOf (map (λ p. (markOf (p .0), p .1)) (map (preOf 0x65 empty abstractByte) (map inr m)))
-        ≡ map (λ a. Abstract false a) m
-    go fail = refl
-    go (got a r) = refl
+unshared-read x l n = rw (ne-eqb x 0x65 n) (map-map absOf (λ a. (false, a)) (abstractByte .parse (x ∷ l)))
 
 byte-read : (x : ℕ) (l : List ℕ) → x < 256 → (o : Option AbstractHeapType) → find byteOf abstracts x ≡ o → abstractByte .parse (x ∷ l) ≡ fromOption o l
 byte-read x l h o e = rw (lt-ltb x 256 h, e)

@@ -16,7 +16,7 @@ use Rattle.types.specs.declared.HeapType.the-variants.{Abstract, Concret
 -- every abstract heap type has bytes
 abs-ok : (s : Bool) (a : AbstractHeapType) → absBytes .Ok (s, a)
 abs-ok true a = (tt, tt)
-abs-ok false a = tt
+abs-ok false a = (tt, tt)
 
 pub ref-agree : Agree refWords refBytes
 ref-agree r = go (r .nullable) (r .«heap_type»)

@@ -9,7 +9,8 @@ use borrow.Author.Tests.{eq-eqb, ne-eqb}
 use Rattle.format.specs.Format.{Format}
 use Rattle.format.specs.Basic.{tag}
 use Rattle.format.specs.Combine.{iso}
-use Rattle.format.specs.Alternatives.{Heads, is, alt, heads-tag, heads-alt, heads-code, marked, heads-marked}
+use Rattle.format.specs.Alternatives.{Heads, is, alt, heads-tag, heads-alt, heads-code}
+use Rattle.format.specs.Leads.{led, mark, heads-mark}
 use Rattle.leb128.specs.Formats.{u32, index, heads-index}
 use Rattle.types.specs.Abstract.{byteOf, byte-range, abstractByte}
 use Rattle.types.specs.declared.AbstractHeapType.{AbstractHeapType}
@@ -26,14 +27,14 @@ byte-not k h a = let l = byte-range a in ne-eqb (byteOf a) k (λ e. omega arith)
 abbrev pub Abs : Type 0
 Abs = Bool × AbstractHeapType
 
-pub unshared : Heads abstractByte (is 0x65) false
-unshared = heads-code byteOf (is 0x65) false (byte-not 0x65 (omega arith))
+pub unshared : Heads abstractByte (mark 0x65 .begins) false
+unshared = heads-code byteOf (mark 0x65 .begins) false (λ a. rw (byte-not 0x65 (omega arith) a))
 
 abbrev pub absBytes : Format Abs
-absBytes = marked 0x65 abstractByte unshared
+absBytes = led (mark 0x65) abstractByte unshared
 
 pub heads-abs : (p : ℕ → Bool) (v : Bool) → p 0x65 ≡ v → ((a : AbstractHeapType) → p (byteOf a) ≡ v) → Heads absBytes p v
-heads-abs p v h k = heads-marked 0x65 abstractByte unshared p v h (heads-code byteOf p v k)
+heads-abs p v h k = heads-mark 0x65 abstractByte unshared p v h (heads-code byteOf p v k)
 
 abbrev pub absOf : Abs → HeapType
 absOf p = Abstract (p .0) (p .1)
