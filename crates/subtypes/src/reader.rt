@@ -6,7 +6,7 @@ use lists::Member;
 use lists::read_index;
 use lists::read_list;
 use numbers::ReadU32;
-use types::read_field;
+use vals::read_field;
 ghost use mathlib.Core.List.{_∷_};
 ghost use Prim.Native.Nat.{_≤_};
 ghost use lib.ListN.{length};

@@ -6,7 +6,7 @@ use lists::Member;
 use lists::walk_list;
 use numbers::append_index;
 use numbers::append_u32;
-use types::walk_field;
+use vals::walk_field;
 ghost use Prim.Native.Nat.{_≤_};
 ghost use lib.ListN.{length};
 ghost use Rattle.format.specs.Alternatives.{opt};

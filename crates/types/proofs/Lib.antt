@@ -1,3 +1,1 @@
 pub mod Heaps
-pub mod Words
-pub mod Bytes

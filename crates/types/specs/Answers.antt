@@ -1,8 +1,10 @@
 -- What reading finds, as the answers of the functions. Assumes nothing.
+use mathlib.Core.Path.{_≡_, refl}
 use mathlib.Core.Option.{Option, none, some}
 use mathlib.Core.Bool.{Bool}
 use mathlib.Core.List.{List}
 use Prim.Native.Nat.{ℕ}
+use native.Mathlib.Omega.{arith}
 use Rattle.format.specs.Parsed.{Parsed, fail, got}
 use Rattle.format.specs.Read.{placeOf}
 use Rattle.types.specs.declared.AbstractHeapType.{AbstractHeapType}
@@ -42,3 +44,21 @@ refAt s (got t r) = places.Is t (placeOf s r)
 abbrev pub refPlaced : Bool → HeapAt → RefAt
 refPlaced n heaps.No = places.No
 refPlaced n (heaps.Is t p) = places.Is (record { nullable = n; «heap_type» = t }) p
+
+-- ---- what an answer tells
+
+pub kind-some : (o : Option AbstractHeapType) (a : AbstractHeapType) → kindAns o ≡ kinds.Kind a → o ≡ some a
+kind-some none a e = let z : _≡_ {A = ℕ} 0 1 = cc in absurd (omega arith)
+kind-some (some b) a e = cc
+
+pub kind-none : (o : Option AbstractHeapType) → kindAns o ≡ kinds.No → o ≡ none
+kind-none none e = refl
+kind-none (some b) e = let z : _≡_ {A = ℕ} 0 1 = cc in absurd (omega arith)
+
+pub ref-some : (o : Option RefType) (r : RefType) → refAns o ≡ refs.Ref r → o ≡ some r
+ref-some none r e = let z : _≡_ {A = ℕ} 0 1 = cc in absurd (omega arith)
+ref-some (some b) r e = cc
+
+pub ref-none : (o : Option RefType) → refAns o ≡ refs.No → o ≡ none
+ref-none none e = refl
+ref-none (some b) e = let z : _≡_ {A = ℕ} 0 1 = cc in absurd (omega arith)

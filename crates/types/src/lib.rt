@@ -1,18 +1,4 @@
-// Heap, reference, value, storage and field types of wasm-encoder's types.rs: their records and their bytes.
-mod reader;
-mod writer;
-
-pub use reader::read_field;
-pub use reader::read_mutable;
-pub use reader::read_ref;
-pub use reader::read_storage;
-pub use reader::read_val;
-pub use writer::append_ref;
-pub use writer::walk_field;
-pub use writer::walk_mutable;
-pub use writer::walk_ref;
-pub use writer::walk_storage;
-pub use writer::walk_val;
+// Heap, reference, value, storage and field types of wasm-encoder's types.rs. Their words and their bytes stand in specs/.
 ghost use mathlib.Core.Path.{_≡_};
 ghost use Rattle.format.specs.Basic.{find};
 ghost use Rattle.types.specs.Abstract.{abstracts, kindOf, byteOf};

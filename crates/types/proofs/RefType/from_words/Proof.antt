@@ -7,7 +7,8 @@ use borrow.Author.Tests.{eq-eqb, ne-eqb}
 use Rattle.format.specs.Basic.{find}
 use Rattle.types.specs.Abstract.{abstracts, kindOf}
 use Rattle.types.specs.Words.{ref-words-bits, ref-words-large}
-use Rattle.types.proofs.Heaps.{kind-some, kind-none, shared-index}
+use Rattle.types.specs.Answers.{kind-some, kind-none}
+use Rattle.types.proofs.Heaps.{shared-index}
 use borrow.Author.Needs.{needs}
 use Rattle.types.proofs.RefType.from_words.Statement.{statement}
 use Rattle.types.proofs.RefType.from_words.Tie as tie

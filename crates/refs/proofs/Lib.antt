@@ -1,0 +1,3 @@
+pub mod Heaps
+pub mod Words
+pub mod Bytes

@@ -1,0 +1,7 @@
+// References: their words and their bytes, as `Encode` of wasm-encoder's types.rs writes `HeapType` and `RefType`.
+mod reader;
+mod writer;
+
+pub use reader::read_ref;
+pub use writer::append_ref;
+pub use writer::walk_ref;
