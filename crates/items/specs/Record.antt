@@ -20,8 +20,8 @@ use Rattle.texts.specs.Text.{Kind, lowestOf}
 use Rattle.texts.specs.Judge.{Records, wordsMost}
 use Rattle.texts.specs.Section.{Section, textless}
 use Rattle.texts.specs.declared.Span.{Span}
-use Rattle.subtypes.specs.RecGroup.{RecGroup}
-use Rattle.subtypes.specs.Section.{typeSection}
+use Rattle.groups.specs.RecGroup.{RecGroup}
+use Rattle.groups.specs.Section.{typeSection}
 use Rattle.tables.specs.Table.{Table}
 use Rattle.tables.specs.Section.{tableSection}
 use Rattle.data.specs.Segment.{Segment}

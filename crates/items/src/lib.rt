@@ -18,7 +18,7 @@ pub fn walk_words(words: &[u32], text: &[u8], out: &mut [u8], s: Done) -> Walk
     }
     let id = words[0];
     if id == 1 {
-        return subtypes::walk_words(words, 1, out, s);
+        return groups::walk_words(words, 1, out, s);
     }
     if id == 4 {
         return tables::walk_words(words, 1, text, out, s);
@@ -36,7 +36,7 @@ pub fn walk_bytes(id: u8, bytes: &[u8], out: &mut [u32], s: Done) -> Walk
 {
     let t = append_word(id as u32, out, s);
     if id == 1 {
-        return subtypes::walk_bytes(bytes, 0, out, t);
+        return groups::walk_bytes(bytes, 0, out, t);
     }
     if id == 4 {
         return tables::walk_bytes(bytes, 0, out, t);

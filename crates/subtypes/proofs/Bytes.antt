@@ -1,7 +1,7 @@
 -- The bytes of types at a place: by the first of them, what they are. Assumes nothing.
 use mathlib.Core.Path.{_≡_, refl, sym, ap, _∙_}
-use mathlib.Core.Bool.{Bool, true, false, cond}
-use mathlib.Core.Option.{Option, none, some}
+use mathlib.Core.Bool.{true, false, cond}
+use mathlib.Core.Option.{none, some}
 use mathlib.Core.Logic.{inl, inr}
 use mathlib.Core.List.{List, [], _∷_, _++_}
 use Prim.Native.Nat.{ℕ, _+_, _<_, _≤_}
@@ -9,7 +9,7 @@ use native.Mathlib.Omega.{arith}
 use lib.IntN.{pos}
 use lib.ListN.{length, getD, drop, length-append}
 use borrow.Author.Tests.{ne-eqb}
-use Rattle.format.specs.Parsed.{Parsed, fail, got, bind, map, map-map}
+use Rattle.format.specs.Parsed.{Parsed, fail, got, bind, map}
 use Rattle.format.specs.Leads.{mark, mark-there, mark-missing, option, option-there, option-missing}
 use Rattle.format.specs.Read.{drop-more, none-read}
 use Rattle.leb128.specs.Formats.{u32}
@@ -19,8 +19,7 @@ use Rattle.leb128.specs.LebLaws.{leb-some}
 use Rattle.lists.specs.Member.{listBytes}
 use Rattle.lists.specs.declared.Member.the-variants.{Index}
 use Rattle.subtypes.specs.Composite.{Kind, func, array, struct, cont, kindByte, kindBytes}
-use Rattle.subtypes.specs.SubType.{SubType, subBytes, isSome, someSupers, supersLead, prefixOf}
-use Rattle.subtypes.specs.RecGroup.{group, single, ofSide, manyBytes, groupBytes}
+use Rattle.subtypes.specs.SubType.{isSome, someSupers, supersLead, prefixOf}
 
 zero-byte : uleb 0 ≡ 0 ∷ []
 unfolding Rattle.leb128.specs.Leb.leb Rattle.leb128.specs.Leb.lebBy
@@ -88,12 +87,3 @@ module _ (w : List ℕ) (at : ℕ) (h : at < length w) where
 
   pub no-prefix : (getD w at 0 ≡ 0x50 → ⊥) → (getD w at 0 ≡ 0x4F → ⊥) → supersLead .parse (drop at w) ≡ got (true, []) (drop at w)
   no-prefix n m = rw (drop-more w at h, ne-eqb (getD w at 0) 0x50 n, ne-eqb (getD w at 0) 0x4F m)
-
-  -- a group, or a type alone
-  pub group-read : getD w at 0 ≡ 0x4E → groupBytes .parse (drop at w) ≡ map group (manyBytes .parse (drop (at + 1) w))
-  group-read e = rw (drop-more w at h, e) (map-map ofSide inl (manyBytes .parse (drop (at + 1) w)))
-
-  pub single-read : (getD w at 0 ≡ 0x4E → ⊥) → groupBytes .parse (drop at w) ≡ map single (subBytes .parse (drop at w))
-  single-read n =
-      ap (groupBytes .parse) (drop-more w at h) ∙ rw (ne-eqb (getD w at 0) 0x4E n) (map-map ofSide inr (subBytes .parse (getD w at 0 ∷ drop (at + 1) w)))
-      ∙ ap (λ (l : List ℕ). map single (subBytes .parse l)) (sym (drop-more w at h))

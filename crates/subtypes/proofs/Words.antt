@@ -2,13 +2,12 @@
 use mathlib.Core.Path.{_≡_, refl, sym, ap, _∙_}
 use mathlib.Core.Bool.{Bool, true, false}
 use mathlib.Core.Option.{Option, none, some}
-use mathlib.Core.Logic.{inl, inr}
 use mathlib.Core.List.{List, [], _∷_, _++_}
 use Prim.Native.Nat.{ℕ, _+_, _<_, _≤_, _^_}
 use native.Mathlib.Omega.{arith}
 use lib.ListN.{length, getD, drop}
 use borrow.Author.Tests.{lt-ltb, ne-eqb}
-use Rattle.format.specs.Parsed.{Parsed, fail, got, map, map-map}
+use Rattle.format.specs.Parsed.{fail, got}
 use Rattle.format.specs.Basic.{flag, bit}
 use Rattle.format.specs.Alternatives.{opt}
 use Rattle.format.specs.Read.{drop-more, drop-two, none-read}
@@ -16,8 +15,7 @@ use Rattle.texts.specs.Words.{word}
 use Rattle.lists.specs.Member.{listWords, listBytes}
 use Rattle.lists.specs.declared.Member.the-variants.{Index}
 use Rattle.subtypes.specs.Composite.{Kind, func, array, struct, cont, kindWord, kindWords}
-use Rattle.subtypes.specs.SubType.{SubType, subWords, supersWords, supersLead}
-use Rattle.subtypes.specs.RecGroup.{RecGroup, group, single, ofSide, manyWords, groupWords}
+use Rattle.subtypes.specs.SubType.{supersWords, supersLead}
 
 pub option-long : (o : Option ℕ) → opt word .Ok o → 2 ≤ length (opt word .print o)
 option-long none ok = omega arith
@@ -25,10 +23,6 @@ option-long (some x) ok = omega arith
 
 pub supers-long : (p : Bool × List ℕ) → supersWords .Ok p → 2 ≤ length (supersWords .print p)
 supers-long p ok = omega arith
-
-pub group-long : (g : RecGroup) → groupWords .Ok g → 2 ≤ length (groupWords .print g)
-group-long (group xs) ok = omega arith
-group-long (single x) ok = omega arith
 
 module _ (w : List ℕ) (at : ℕ) (h : at < length w) where
   -- no flag
@@ -72,19 +66,6 @@ module _ (w : List ℕ) (at : ℕ) (h : at + 2 ≤ length w) where
   -- final, and no supertypes
   pub no-supers : getD w at 0 ≡ 1 → getD w (at + 1) 0 ≡ 0 → supersWords .parse (drop at w) ≡ got (true, []) (drop (at + 2) w)
   no-supers e f = rw (drop-two w at h, e, f)
-
-  -- a group; a type alone; neither
-  pub group-read : getD w at 0 ≡ 1 → groupWords .parse (drop at w) ≡ map group (manyWords .parse (drop (at + 1) w))
-  group-read e = rw (drop-more w at (omega arith), e) (map-map ofSide inl (manyWords .parse (drop (at + 1) w)))
-
-  pub single-read : getD w at 0 ≡ 0 → getD w (at + 1) 0 ≡ 1 → groupWords .parse (drop at w) ≡ map single (subWords .parse (drop (at + 2) w))
-  single-read e f = rw (drop-two w at h, e, f) (map-map ofSide inr (subWords .parse (drop (at + 2) w)))
-
-  pub group-flag : (getD w at 0 ≡ 0 → ⊥) → (getD w at 0 ≡ 1 → ⊥) → groupWords .parse (drop at w) ≡ fail
-  group-flag z o = rw (drop-two w at h, ne-eqb (getD w at 0) 1 o, ne-eqb (getD w at 0) 0 z)
-
-  pub single-count : getD w at 0 ≡ 0 → (getD w (at + 1) 0 ≡ 1 → ⊥) → groupWords .parse (drop at w) ≡ fail
-  single-count e n = rw (drop-two w at h, e, ne-eqb (getD w (at + 1) 0) 1 n)
 
 -- 4F before a list that is not empty
 pub some-print : (xs : List ℕ) → (xs ≡ [] → ⊥) → 0x4F ∷ listBytes Index .print xs ≡ supersLead .print (true, xs)

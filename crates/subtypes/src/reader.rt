@@ -8,12 +8,9 @@ use lists::read_list;
 use numbers::ReadU32;
 use vals::read_field;
 ghost use mathlib.Core.List.{_∷_};
-ghost use Prim.Native.Nat.{_≤_};
-ghost use lib.ListN.{length};
 ghost use Rattle.format.specs.Alternatives.{opt};
 ghost use Rattle.format.specs.Basic.{flag};
 ghost use Rattle.format.specs.Leads.{LeadWalks, mark, option};
-ghost use Rattle.format.specs.Loop.{Members};
 ghost use Rattle.format.specs.Walk.{Walks};
 ghost use Rattle.leb128.specs.Formats.{u32, index};
 ghost use Rattle.lists.specs.Member.{listWords};
@@ -21,7 +18,6 @@ ghost use Rattle.lists.specs.declared.Member.the-variants.{Index};
 ghost use Rattle.texts.specs.Words.{word};
 ghost use Rattle.subtypes.specs.Composite.{func, bodyWords, bodyBytes, innerWords, innerBytes};
 ghost use Rattle.subtypes.specs.SubType.{supersWords, supersLead, someSupers, describedWords, describedBytes, subWords, subBytes};
-ghost use Rattle.subtypes.specs.RecGroup.{manyWords, manyBytes, groupWords, groupBytes};
 
 // Parameters and results.
 fn read_func(b: &[u8], at: usize, out: &mut [u32], s: Done) -> Walk
@@ -140,7 +136,7 @@ fn read_supers(b: &[u8], at: usize, out: &mut [u32], s: Done) -> Walk
     Walk::Got(at, append_word(0, out, t))
 }
 
-fn read_sub(b: &[u8], at: usize, out: &mut [u32], s: Done) -> Walk
+pub fn read_sub(b: &[u8], at: usize, out: &mut [u32], s: Done) -> Walk
     ensures { λ r. ⌜ Walks subBytes (subWords .print) (λ x. 9) (now (b .entry)) at (now (out .entry)) s (now (out .exit)) r ⌝ }
 {
     let Walk::Got(p, t) = read_supers(b, at, out, s) else {
@@ -150,53 +146,4 @@ fn read_sub(b: &[u8], at: usize, out: &mut [u32], s: Done) -> Walk
         return Walk::No;
     };
     read_described(b, q, out, u)
-}
-
-// n subtypes.
-fn read_subs(n: usize, b: &[u8], at: usize, out: &mut [u32], s: Done) -> Walk
-    requires { ⌜ at ≤ length (now b) ⌝ }
-    ensures { λ r. ⌜ Members subBytes (subWords .print) (now (b .entry)) at n (now (out .entry)) s (now (out .exit)) r ⌝ }
-{
-    let mut t = s;
-    let mut p = at;
-    let mut left = n;
-    while 0 < left {
-        let Walk::Got(q, u) = read_sub(b, p, out, t) else {
-            return Walk::No;
-        };
-        p = q;
-        t = u;
-        left = left - 1;
-    }
-    Walk::Got(p, t)
-}
-
-// A count larger than what is left is answered at once, since each subtype takes a byte.
-fn read_many(b: &[u8], at: usize, out: &mut [u32], s: Done) -> Walk
-    ensures { λ r. ⌜ Walks manyBytes (manyWords .print) (λ x. 9) (now (b .entry)) at (now (out .entry)) s (now (out .exit)) r ⌝ }
-{
-    let ReadU32::Value(n, p) = numbers::decode_u32(b, at) else {
-        return Walk::No;
-    };
-    if b.len() - p < n as usize {
-        return Walk::No;
-    }
-    let t = append_word(n, out, s);
-    read_subs(n as usize, b, p, out, t)
-}
-
-// Reads an item of the type section and appends the words of its record behind the 1.
-pub fn walk_bytes(b: &[u8], at: usize, out: &mut [u32], s: Done) -> Walk
-    ensures { λ r. ⌜ Walks groupBytes (groupWords .print) (λ x. 9) (now (b .entry)) at (now (out .entry)) s (now (out .exit)) r ⌝ }
-{
-    if b.len() <= at {
-        return Walk::No;
-    }
-    if b[at] == 0x4E {
-        let t = append_word(1, out, s);
-        return read_many(b, at + 1, out, t);
-    }
-    let t = append_word(0, out, s);
-    let u = append_word(1, out, t);
-    read_sub(b, at, out, u)
 }

@@ -7,18 +7,14 @@ use lists::walk_list;
 use numbers::append_index;
 use numbers::append_u32;
 use vals::walk_field;
-ghost use Prim.Native.Nat.{_≤_};
-ghost use lib.ListN.{length};
 ghost use Rattle.format.specs.Alternatives.{opt};
 ghost use Rattle.format.specs.Basic.{flag};
 ghost use Rattle.format.specs.Leads.{mark, option};
-ghost use Rattle.format.specs.Loop.{Members};
 ghost use Rattle.format.specs.Walk.{Walks};
 ghost use Rattle.leb128.specs.Formats.{u32, index};
 ghost use Rattle.texts.specs.Words.{word};
 ghost use Rattle.subtypes.specs.Composite.{func, bodyWords, bodyBytes, innerWords, innerBytes};
 ghost use Rattle.subtypes.specs.SubType.{supersWords, supersLead, describedWords, describedBytes, subWords, subBytes};
-ghost use Rattle.subtypes.specs.RecGroup.{manyWords, manyBytes, groupWords, groupBytes};
 
 // Parameters and results.
 fn walk_func(words: &[u32], at: usize, out: &mut [u8], s: Done) -> Walk
@@ -143,7 +139,7 @@ fn walk_supers(words: &[u32], at: usize, out: &mut [u8], s: Done) -> Walk
     walk_list(Member::Index, words, at + 1, out, t)
 }
 
-fn walk_sub(words: &[u32], at: usize, out: &mut [u8], s: Done) -> Walk
+pub fn walk_sub(words: &[u32], at: usize, out: &mut [u8], s: Done) -> Walk
     ensures { λ r. ⌜ Walks subWords (subBytes .print) (λ x. 9) (now (words .entry)) at (now (out .entry)) s (now (out .exit)) r ⌝ }
 {
     let Walk::Got(p, t) = walk_supers(words, at, out, s) else {
@@ -153,62 +149,4 @@ fn walk_sub(words: &[u32], at: usize, out: &mut [u8], s: Done) -> Walk
         return Walk::No;
     };
     walk_described(words, q, out, u)
-}
-
-// n subtypes.
-fn walk_subs(n: usize, words: &[u32], at: usize, out: &mut [u8], s: Done) -> Walk
-    requires { ⌜ at ≤ length (now words) ⌝ }
-    ensures { λ r. ⌜ Members subWords (subBytes .print) (now (words .entry)) at n (now (out .entry)) s (now (out .exit)) r ⌝ }
-{
-    let mut t = s;
-    let mut p = at;
-    let mut left = n;
-    while 0 < left {
-        let Walk::Got(q, u) = walk_sub(words, p, out, t) else {
-            return Walk::No;
-        };
-        p = q;
-        t = u;
-        left = left - 1;
-    }
-    Walk::Got(p, t)
-}
-
-// A count larger than what is left is answered at once, since each subtype takes a word.
-fn walk_many(words: &[u32], at: usize, out: &mut [u8], s: Done) -> Walk
-    ensures { λ r. ⌜ Walks manyWords (manyBytes .print) (λ x. 9) (now (words .entry)) at (now (out .entry)) s (now (out .exit)) r ⌝ }
-{
-    if words.len() <= at {
-        return Walk::No;
-    }
-    let n = words[at];
-    if words.len() - at - 1 < n as usize {
-        return Walk::No;
-    }
-    let t = append_u32(n, out, s);
-    walk_subs(n as usize, words, at + 1, out, t)
-}
-
-// Reads the words of a type behind its 1 and appends its item: a subtype alone, or a group.
-pub fn walk_words(words: &[u32], at: usize, out: &mut [u8], s: Done) -> Walk
-    ensures { λ r. ⌜ Walks groupWords (groupBytes .print) (λ x. 9) (now (words .entry)) at (now (out .entry)) s (now (out .exit)) r ⌝ }
-{
-    if words.len() <= at {
-        return Walk::No;
-    }
-    if words.len() - at < 2 {
-        return Walk::No;
-    }
-    let f = words[at];
-    if f == 1 {
-        let t = append_byte(0x4E, out, s);
-        return walk_many(words, at + 1, out, t);
-    }
-    if f != 0 {
-        return Walk::No;
-    }
-    if words[at + 1] != 1 {
-        return Walk::No;
-    }
-    walk_sub(words, at + 2, out, s)
 }

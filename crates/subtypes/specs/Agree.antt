@@ -1,5 +1,4 @@
--- The types that have words are those that have bytes, and what the type section is as a section (document 01, Records and Types to bytes): its records have
--- no texts. Assumes nothing.
+-- The subtypes that have words are those that have bytes (document 01, Records and Types to bytes). Assumes nothing.
 use mathlib.Core.Path.{refl}
 use mathlib.Core.Logic.{_↔_}
 use mathlib.Core.Bool.{Bool, true, false}
@@ -7,23 +6,19 @@ use mathlib.Core.Option.{Option, none, some}
 use mathlib.Core.List.{List, [], _∷_}
 use Prim.Native.Nat.{ℕ}
 use native.Mathlib.Omega.{arith}
-use Rattle.format.specs.Format.{Format}
-use Rattle.format.specs.Basic.{tag}
 use Rattle.format.specs.Alternatives.{is, opt}
-use Rattle.format.specs.Agree.{Agree, agree-same, pair-agree, alt-agree, many-agree}
+use Rattle.format.specs.Agree.{Agree, pair-agree, many-agree}
 use Rattle.format.specs.Leads.{option, mark}
 use Rattle.leb128.specs.Formats.{u32}
 use Rattle.texts.specs.Words.{word}
-use Rattle.texts.specs.Section as section
 use Rattle.types.specs.Agree.{val-agree, field-agree}
 use Rattle.types.specs.Vals.{valWords, valBytes, fieldWords, fieldBytes}
 use Rattle.lists.specs.Member.{listWords, listBytes}
-use Rattle.lists.specs.declared.Member.the-variants.{Index, Val, Field}
-use Rattle.subtypes.specs.Composite.{Inner, Kind, func, array, struct, cont, Body, bodyWords, bodyBytes, innerWords, innerBytes}
-use Rattle.subtypes.specs.SubType.{SubType, supersWords, supersLead, subWords, subBytes}
-use Rattle.subtypes.specs.RecGroup.{RecGroup, sideOf, manyWords, manyBytes, groupWords, groupBytes}
+use Rattle.lists.specs.declared.Member.the-variants.{Index, Val}
+use Rattle.subtypes.specs.Composite.{Kind, func, array, struct, cont, bodyWords, bodyBytes, innerWords, innerBytes}
+use Rattle.subtypes.specs.SubType.{supersWords, supersLead, subWords, subBytes}
 
-index-agree : Agree word u32
+pub index-agree : Agree word u32
 index-agree n = (λ h. h, λ h. h)
 
 indices-agree : Agree (listWords Index) (listBytes Index)
@@ -55,7 +50,7 @@ supers-agree (false, xs) = let a = indices-agree xs in (λ h. a .0 (h .1), λ h.
 supers-agree (true, []) = let a = indices-agree [] in (λ h. tt, λ h. (tt, (omega arith, tt)))
 supers-agree (true, x ∷ xs) = let a = indices-agree (x ∷ xs) in (λ h. (a .0 (h .1), refl), λ h. (tt, a .1 (h .0)))
 
-sub-agree : Agree subWords subBytes
+pub sub-agree : Agree subWords subBytes
 sub-agree s =
     let p = supers-agree (s .final, s .supers) in
     let d = option-agree 0x4C (s .describes) in
@@ -64,9 +59,3 @@ sub-agree s =
       λ h. (p .0 (h .0), (mark-ok 0x65 (s .shared), (d .0 (h .1 .1 .0), (e .0 (h .1 .1 .1 .0), i .0 (h .1 .1 .1 .1))))),
       λ h. (p .1 (h .0), (tt, (d .1 (h .1 .1 .0), (e .1 (h .1 .1 .1 .0), i .1 (h .1 .1 .1 .1))))),
     )
-
-pub group-agree : Agree groupWords groupBytes
-group-agree g = alt-agree (tag 1 manyWords) (tag 0x4E manyBytes) (tag 0 (tag 1 subWords)) subBytes (many-agree word u32 subWords subBytes index-agree sub-agree) sub-agree (is 1) (is 0x4E) (sideOf g)
-
-abbrev pub typeSection : section.Section RecGroup RecGroup
-typeSection = section.textless groupWords groupBytes group-agree

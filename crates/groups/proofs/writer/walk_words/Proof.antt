@@ -1,4 +1,4 @@
--- `subtypes::writer::walk_words` meets its contract: by the group flag. Assumes nothing.
+-- `groups::writer::walk_words` meets its contract: by the group flag. Assumes nothing.
 use denote.Ref.{now}
 use mathlib.Core.Path.{refl}
 use mathlib.Core.List.{[], _∷_}
@@ -7,12 +7,12 @@ use native.Mathlib.Omega.{arith}
 use Rattle.format.specs.Count.{adds-nil}
 use Rattle.format.specs.Read.{too-few}
 use Rattle.format.specs.Walk.{walks-no, walks-tail}
 use Rattle.subtypes.specs.SubType.{subWords, subBytes}
-use Rattle.subtypes.specs.RecGroup.{group, single, manyWords, manyBytes, groupWords, groupBytes}
-use Rattle.subtypes.proofs.Words.{group-long, group-read, single-read, group-flag, single-count}
+use Rattle.groups.specs.RecGroup.{group, single, manyWords, manyBytes, groupWords, groupBytes}
+use Rattle.groups.proofs.Words.{group-long, group-read, single-read, group-flag, single-count}
 use borrow.Author.Needs.{needs}
-use Rattle.subtypes.proofs.writer.walk_words.Statement.{statement}
-use Rattle.subtypes.proofs.writer.walk_words.Tie as tie
+use Rattle.groups.proofs.writer.walk_words.Statement.{statement}
+use Rattle.groups.proofs.writer.walk_words.Tie as tie
 
 returns : tie.Need-returns
 returns c =

@@ -1,4 +1,4 @@
--- `subtypes::writer::walk_many` meets its contract: the count, and then so many subtypes. Assumes nothing.
+-- `groups::writer::walk_many` meets its contract: the count, and then so many subtypes. Assumes nothing.
 use denote.Ref.{now}
 use Prim.Native.Nat.{_+_}
 use native.Mathlib.Omega.{arith}
@@ -7,11 +7,11 @@ use Rattle.format.specs.Read.{drop-end}
 use Rattle.format.specs.Loop.{counted-no, counted-short, counted-got}
 use Rattle.leb128.specs.Leb.{uleb}
 use Rattle.texts.specs.Words.{word, word-at}
 use Rattle.subtypes.specs.SubType.{subWords, subBytes}
-use Rattle.subtypes.specs.RecGroup.{sub-words-long}
+use Rattle.groups.specs.RecGroup.{sub-words-long}
 use borrow.Author.Needs.{needs}
-use Rattle.subtypes.proofs.writer.walk_many.Statement.{statement}
-use Rattle.subtypes.proofs.writer.walk_many.Tie as tie
+use Rattle.groups.proofs.writer.walk_many.Statement.{statement}
+use Rattle.groups.proofs.writer.walk_many.Tie as tie
 
 returns : tie.Need-returns
 returns c =

@@ -1,12 +1,12 @@
--- `subtypes::writer::walk_subs` meets its contract: the loop has walked some subtypes, and the others are left. Assumes nothing.
+-- `groups::writer::walk_subs` meets its contract: the loop has walked some subtypes, and the others are left. Assumes nothing.
 use denote.Ref.{now}
 use mathlib.Core.Path.{_∙_}
 use Rattle.format.specs.Loop.{Going, going-none, going-more, members-no, members-got}
 use Rattle.format.specs.Walk.{no-walks, got-walks}
 use Rattle.subtypes.specs.SubType.{subWords, subBytes}
 use borrow.Author.Needs.{needs}
-use Rattle.subtypes.proofs.writer.walk_subs.Statement.{statement}
-use Rattle.subtypes.proofs.writer.walk_subs.Tie as tie
+use Rattle.groups.proofs.writer.walk_subs.Statement.{statement}
+use Rattle.groups.proofs.writer.walk_subs.Tie as tie
 
 abbrev Inv-loop : tie.InvT-loop
 Inv-loop n words at out₀ t₀ p₀ left₀ out t p left = Going subWords (λ k v. subBytes .print v) (λ v. 9) words at n out₀ t₀ out t p left

@@ -1,4 +1,4 @@
--- `subtypes::reader::read_many` meets its contract: the count, and then so many subtypes. Assumes nothing.
+-- `groups::reader::read_many` meets its contract: the count, and then so many subtypes. Assumes nothing.
 use denote.Ref.{now}
 use mathlib.Core.Path.{sym, ap, _∙_}
 use mathlib.Core.List.{[], _∷_}
@@ -8,11 +8,11 @@ use Rattle.format.specs.Read.{told-found, told-nothing}
 use Rattle.format.specs.Loop.{counted-no, counted-short, counted-got}
 use Rattle.leb128.specs.Formats.{u32}
 use Rattle.numbers.specs.Answers.{readU32}
 use Rattle.subtypes.specs.SubType.{subWords, subBytes}
-use Rattle.subtypes.specs.RecGroup.{sub-bytes-long}
+use Rattle.groups.specs.RecGroup.{sub-bytes-long}
 use borrow.Author.Needs.{needs}
-use Rattle.subtypes.proofs.reader.read_many.Statement.{statement}
-use Rattle.subtypes.proofs.reader.read_many.Tie as tie
+use Rattle.groups.proofs.reader.read_many.Statement.{statement}
+use Rattle.groups.proofs.reader.read_many.Tie as tie
 
 returns : tie.Need-returns
 returns c =

@@ -1,4 +1,4 @@
--- `subtypes::reader::walk_bytes` meets its contract: by the first byte. Assumes nothing.
+-- `groups::reader::walk_bytes` meets its contract: by the first byte. Assumes nothing.
 use denote.Ref.{now}
 use mathlib.Core.Path.{refl}
 use mathlib.Core.List.{[], _∷_}
@@ -7,12 +7,12 @@ use native.Mathlib.Omega.{arith}
 use Rattle.format.specs.Count.{adds-seq}
 use Rattle.format.specs.Read.{drop-end}
 use Rattle.format.specs.Walk.{walks-no, walks-tail}
 use Rattle.subtypes.specs.SubType.{subWords, subBytes}
-use Rattle.subtypes.specs.RecGroup.{group, single, manyWords, manyBytes, groupWords, groupBytes}
-use Rattle.subtypes.proofs.Bytes.{group-read, single-read}
+use Rattle.groups.specs.RecGroup.{group, single, manyWords, manyBytes, groupWords, groupBytes}
+use Rattle.groups.proofs.Bytes.{group-read, single-read}
 use borrow.Author.Needs.{needs}
-use Rattle.subtypes.proofs.reader.walk_bytes.Statement.{statement}
-use Rattle.subtypes.proofs.reader.walk_bytes.Tie as tie
+use Rattle.groups.proofs.reader.walk_bytes.Statement.{statement}
+use Rattle.groups.proofs.reader.walk_bytes.Tie as tie
 
 returns : tie.Need-returns
 returns c =
