@@ -1,72 +1,15 @@
 // The hex-line program: each line of standard input is answered by one line of standard output.
-mod reply;
-
 use libc::STDERR_FILENO;
 use libc::STDIN_FILENO;
 use libc::STDOUT_FILENO;
-use reply::Run;
-use reply::end_line;
+use replies::Run;
+use replies::end_input;
+use replies::take_piece;
 ghost use mathlib.Core.Path.{_≡_};
 ghost use Prim.Native.Nat.{_≤_};
 ghost use lib.ListN.{length};
-ghost use Rattle.hexlines.specs.Input.{keptMost};
-ghost use Rattle.hexlines.specs.Run.{longest, Ready, Gathered, Takes, Closes};
-
-// The characters of a part of a line, behind those that are gathered. Those of a line that is too long are not kept.
-fn gather(part: &[u8], r: Run, line: &mut [u8]) -> Run
-    requires { ⌜ r .n ≤ length (now line) ⌝ }
-    ensures { λ s. ⌜ Gathered r (now (part .entry)) (now (line .entry)) (now (line .exit)) s ⌝ }
-{
-    let n = r.n;
-    let m = format::least(part.len(), line.len() - n);
-    format::copy(&part[0..m], &mut line[n..]);
-    Run {
-        used: r.used,
-        n: n + m,
-        at: r.at,
-        ok: r.ok,
-    }
-}
-
-// A line may have begun in an earlier piece, and may go on in a later one.
-fn take_piece(
-    piece: &[u8],
-    r: Run,
-    line: &mut [u8],
-    store: &mut [u8],
-    buffer: &mut [u8],
-    out: &mut [u8],
-) -> Run
-    requires { ⌜ Ready r (now line) (now buffer) (now out) ⌝ }
-    ensures { λ s. ⌜ Takes (now (piece .entry)) r (now (line .entry)) (now (store .entry)) (now (buffer .entry)) (now (out .entry)) s (now (line .exit)) (now (store .exit)) (now (buffer .exit)) (now (out .exit)) ⌝ }
-{
-    let mut run = r;
-    let mut i = 0;
-    while i < piece.len() {
-        let end = bytes::scan::find(piece, i, piece.len(), b'\n');
-        run = gather(&piece[i..end], run, line);
-        if piece.len() <= end {
-            return run;
-        }
-        run = end_line(run, line, store, buffer, out);
-        if !run.ok {
-            return run;
-        }
-        i = end + 1;
-    }
-    run
-}
-
-// A last line may lack its line feed; nothing after the last line feed is no line.
-fn end_input(r: Run, line: &[u8], store: &mut [u8], buffer: &mut [u8], out: &mut [u8]) -> Run
-    requires { ⌜ Ready r (now line) (now buffer) (now out) ⌝ }
-    ensures { λ s. ⌜ Closes r (now (line .entry)) (now (store .entry)) (now (buffer .entry)) (now (out .entry)) s (now (store .exit)) (now (buffer .exit)) (now (out .exit)) ⌝ }
-{
-    if r.n == 0 {
-        return r;
-    }
-    end_line(r, line, store, buffer, out)
-}
+ghost use Rattle.replies.specs.Input.{keptMost};
+ghost use Rattle.replies.specs.Run.{longest};
 
 fn read_piece(piece: &mut [u8]) -> isize {
     let got = libc::read(STDIN_FILENO, piece);

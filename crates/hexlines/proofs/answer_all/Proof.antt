@@ -3,8 +3,8 @@ use mathlib.Core.Path.{_≡_, refl, _∙_}
 use native.Mathlib.Omega.{arith}
 use lib.ListN.{length}
 use borrow.Author.Needs.{needs}
-use Rattle.hexlines.specs.Run.{Ready}
-use Rattle.hexlines.proofs.Keeping.{Keeps}
+use Rattle.replies.specs.Run.{Ready}
+use Rattle.replies.specs.Keeping.{Keeps}
 use Rattle.hexlines.proofs.answer_all.Statement.{statement}
 use Rattle.hexlines.proofs.answer_all.Tie as tie
 

@@ -1,13 +1,13 @@
--- `hexlines::end_input` meets its contract. Assumes nothing.
+-- `replies::input::end_input` meets its contract. Assumes nothing.
 use mathlib.Core.Path.{sym, subst}
 use native.Mathlib.Omega.{arith}
 use denote.Ref.{now}
 use borrow.Author.Needs.{needs}
-use Rattle.hexlines.specs.Input.{Kept, closed-none, closed-line}
-use Rattle.hexlines.specs.Run.{Shows}
-use Rattle.hexlines.proofs.Showing.{as-long}
-use Rattle.hexlines.proofs.end_input.Statement.{statement}
-use Rattle.hexlines.proofs.end_input.Tie as tie
+use Rattle.replies.specs.Input.{Kept, closed-none, closed-line}
+use Rattle.replies.specs.Run.{Shows}
+use Rattle.replies.proofs.Showing.{as-long}
+use Rattle.replies.proofs.input.end_input.Statement.{statement}
+use Rattle.replies.proofs.input.end_input.Tie as tie
 
 returns : tie.Need-returns
 returns c =

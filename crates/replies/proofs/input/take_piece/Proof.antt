@@ -1,4 +1,4 @@
--- `hexlines::take_piece` meets its contract: what is kept from line to line stands in its buffers. Assumes nothing.
+-- `replies::input::take_piece` meets its contract: what is kept from line to line stands in its buffers. Assumes nothing.
 use mathlib.Core.Path.{refl, sym, ap, subst, _∙_}
 use mathlib.Core.Bool.{true≢false}
 use Prim.Native.Nat.{_-_, _≤_}
@@ -8,13 +8,13 @@ use lib.Seq.{take-all}
 use denote.Ref.{now}
 use borrow.Author.Needs.{needs}
 use borrow.Author.Tests.{not-true}
-use Rattle.hexlines.specs.Input.{Kept, more, hears}
-use Rattle.hexlines.specs.Run.{Ready, Shows}
-use Rattle.hexlines.proofs.Keeping.{Keeps}
-use Rattle.hexlines.proofs.Hearing.{part-heard, line-heard}
-use Rattle.hexlines.proofs.Showing.{shows-part}
-use Rattle.hexlines.proofs.take_piece.Statement.{statement}
-use Rattle.hexlines.proofs.take_piece.Tie as tie
+use Rattle.replies.specs.Input.{Kept, more, hears}
+use Rattle.replies.specs.Run.{Ready, Shows}
+use Rattle.replies.specs.Keeping.{Keeps}
+use Rattle.replies.proofs.Hearing.{part-heard, line-heard}
+use Rattle.replies.proofs.Showing.{shows-part}
+use Rattle.replies.proofs.input.take_piece.Statement.{statement}
+use Rattle.replies.proofs.input.take_piece.Tie as tie
 
 abbrev Inv-loop : tie.InvT-loop
 Inv-loop piece line₀ store₀ buffer₀ out₀ run₀ i₀ line store buffer out run i =

@@ -1,12 +1,12 @@
--- `hexlines::reply::make_room` meets its contract: nothing was handed on, or all that waited. Assumes nothing.
+-- `replies::reply::make_room` meets its contract: nothing was handed on, or all that waited. Assumes nothing.
 use mathlib.Core.Path.{refl}
 use mathlib.Core.List.{[], append-nil}
 use native.Mathlib.Omega.{arith}
 use lib.ListN.{take}
 use denote.Ref.{now}
 use borrow.Author.Needs.{needs}
-use Rattle.hexlines.proofs.reply.make_room.Statement.{statement}
-use Rattle.hexlines.proofs.reply.make_room.Tie as tie
+use Rattle.replies.proofs.reply.make_room.Statement.{statement}
+use Rattle.replies.proofs.reply.make_room.Tie as tie
 
 returns : tie.Need-returns
 returns c = record { state = refl; room = omega (arith, c .if1 .taken, c .before .before .pre); handed = []; waits = refl }

@@ -13,9 +13,9 @@ use Rattle.format.specs.declared.Written.{Written}
 use Rattle.hex.specs.Line.{lineOf}
 use Rattle.lines.specs.Done.{doing}
 use Rattle.lines.specs.Answer.{Outcome, answerLine, answered, answers-line}
-use Rattle.hexlines.specs.Input.{Kept, answerOf, ended, more, keptMost, front-tells, front-more}
-use Rattle.hexlines.specs.Run.{Shows, Gathered, Roomy, answerTo, Replied}
-use Rattle.hexlines.specs.declared.reply.Run.{Run}
+use Rattle.replies.specs.Input.{Kept, answerOf, ended, more, keptMost, front-tells, front-more}
+use Rattle.replies.specs.Run.{Shows, Gathered, Roomy, answerTo, Replied}
+use Rattle.replies.specs.declared.Run.{Run}
 
 -- ---- a part of a line
 

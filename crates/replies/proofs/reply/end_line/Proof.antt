@@ -1,12 +1,12 @@
--- `hexlines::reply::end_line` meets its contract. Assumes nothing.
+-- `replies::reply::end_line` meets its contract. Assumes nothing.
 use mathlib.Core.Path.{ap}
 use denote.Ref.{now}
 use native.Mathlib.Omega.{arith}
 use borrow.Author.Needs.{needs}
-use Rattle.hexlines.specs.declared.reply.Run.{Run}
-use Rattle.hexlines.proofs.Showing.{shows-end}
-use Rattle.hexlines.proofs.reply.end_line.Statement.{statement}
-use Rattle.hexlines.proofs.reply.end_line.Tie as tie
+use Rattle.replies.specs.declared.Run.{Run}
+use Rattle.replies.proofs.Showing.{shows-end}
+use Rattle.replies.proofs.reply.end_line.Statement.{statement}
+use Rattle.replies.proofs.reply.end_line.Tie as tie
 
 returns : tie.Need-returns
 returns c =

@@ -1,4 +1,4 @@
--- `hexlines::reply::reply` meets its contract: there is room for the answer, and for its line feed. Assumes nothing.
+-- `replies::reply::reply` meets its contract: there is room for the answer, and for its line feed. Assumes nothing.
 use mathlib.Core.Path.{_≡_, sym, ap, _∙_}
 use mathlib.Core.Bool.{true, false, true≢false}
 use mathlib.Core.List.{List, _++_}
@@ -11,9 +11,9 @@ use borrow.Rule.Slice.PartMut.{same-len-mid}
 use Rattle.format.specs.Write.{rest-lent, rest-back}
 use Rattle.lines.specs.Answer.{Outcome, outcome, answering, answers-line, answer-long}
 use Rattle.lines.specs.declared.Reply.{Reply}
-use Rattle.hexlines.specs.Run.{answerTo}
-use Rattle.hexlines.proofs.reply.reply.Statement.{statement}
-use Rattle.hexlines.proofs.reply.reply.Tie as tie
+use Rattle.replies.specs.Run.{answerTo}
+use Rattle.replies.proofs.reply.reply.Statement.{statement}
+use Rattle.replies.proofs.reply.reply.Tie as tie
 
 -- what the reply stands for
 stands : (k : tie.After-slice-known6) (x : Reply) → k .before .before .before .before .before .before .answer .result ≡ x

@@ -10,7 +10,7 @@ use lib.ListN.{length, take, drop, getD, length-drop}
 use lib.Seq.{take-length, take-add, take-suc, getD-drop}
 use borrow.Author.Tests.{eqb-true}
 use Rattle.bytes.specs.Bytes.{slice, indexAfter, indexOf}
-use Rattle.hexlines.specs.Input.{Kept, ended, more, heard, hears, hears-more, heard-end, heard-other, more-none, more-more}
+use Rattle.replies.specs.Input.{Kept, ended, more, heard, hears, hears-more, heard-end, heard-other, more-none, more-more}
 
 -- before the first line feed there is none
 to-feed : (k : Kept) (xs : List ℕ) → hears k (take (indexOf 0x0A xs) xs) ≡ more k (take (indexOf 0x0A xs) xs)

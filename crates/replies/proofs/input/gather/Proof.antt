@@ -1,4 +1,4 @@
--- `hexlines::gather` meets its contract. Assumes nothing.
+-- `replies::input::gather` meets its contract. Assumes nothing.
 use mathlib.Core.Path.{refl}
 use Prim.Native.Nat.{_-_}
 use native.Mathlib.Omega.{arith}
@@ -6,9 +6,9 @@ use lib.ListN.{length}
 use denote.Ref.{now}
 use borrow.Author.Needs.{needs}
 use borrow.Rule.Slice.PartMut.{same-len-mid}
-use Rattle.hexlines.proofs.Showing.{gathers}
-use Rattle.hexlines.proofs.gather.Statement.{statement}
-use Rattle.hexlines.proofs.gather.Tie as tie
+use Rattle.replies.proofs.Showing.{gathers}
+use Rattle.replies.proofs.input.gather.Statement.{statement}
+use Rattle.replies.proofs.input.gather.Tie as tie
 
 returns : tie.Need-returns
 returns c =

@@ -5,8 +5,8 @@ use mathlib.Core.List.{List, _++_}
 use Prim.Native.Nat.{ℕ, _+_, _≤_, _<_}
 use lib.ListN.{length, take, drop, set}
 use Rattle.lines.specs.Answer.{Outcome, answering}
-use Rattle.hexlines.specs.Input.{Kept, ended, hears, closed, keptMost}
-use Rattle.hexlines.specs.declared.reply.Run.{Run}
+use Rattle.replies.specs.Input.{Kept, ended, hears, closed, keptMost}
+use Rattle.replies.specs.declared.Run.{Run}
 
 -- the longest answer: two digits, those of a module of 32,768 bytes, and the line feed
 abbrev pub longest : ℕ

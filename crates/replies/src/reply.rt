@@ -1,19 +1,12 @@
 // A line's answer and its line feed, behind the answers that wait to be written.
+use crate::Run;
 use libc::STDOUT_FILENO;
 use lines::Reply;
 use lines::answer;
 use thriftbell::State;
 ghost use Prim.Native.Nat.{_+_, _*_, _≤_};
 ghost use lib.ListN.{length};
-ghost use Rattle.hexlines.specs.Run.{longest, Ready, Roomy, answerTo, Replied, Ends};
-
-// The room used; how many characters of a line are gathered; how many bytes wait to be written; and whether all went well.
-pub struct Run {
-    pub used: usize,
-    pub n: usize,
-    pub at: usize,
-    pub ok: bool,
-}
+ghost use Rattle.replies.specs.Run.{longest, Ready, Roomy, answerTo, Replied, Ends};
 
 // The longest answer: two digits, those of a module that fills its buffer, and the line feed.
 const LONGEST: usize = 65539;

@@ -1,4 +1,0 @@
--- What the proofs of `hexlines` share.
-pub mod Keeping
-pub mod Hearing
-pub mod Showing

@@ -1,0 +1,3 @@
+-- What the proofs of `replies` share.
+pub mod Hearing
+pub mod Showing

@@ -1,0 +1,4 @@
+-- Lines out of pieces: what is said to an input, and what memory holds of that.
+pub mod Input
+pub mod Run
+pub mod Keeping

@@ -1,0 +1,14 @@
+// Lines out of pieces of an input, and their answers into an output that is written where it fills.
+mod input;
+mod reply;
+
+pub use input::end_input;
+pub use input::take_piece;
+
+// The room used; how many characters of a line are gathered; how many bytes wait to be written; and whether all went well.
+pub struct Run {
+    pub used: usize,
+    pub n: usize,
+    pub at: usize,
+    pub ok: bool,
+}
