@@ -16,7 +16,7 @@ use Rattle.texts.specs.Words.{span}
 use Rattle.texts.specs.declared.Span.{Span}
 use Rattle.types.specs.Vals.{unused}
 use Rattle.types.specs.Bytes.{refBytes}
-use Rattle.tables.specs.Limits.{limitsBytes}
+use Rattle.limits.specs.Limits.{limitsBytes}
 use Rattle.tables.specs.TableType.{tableTo, tableWords, tableBytes}
 use Rattle.tables.specs.Table.{table, withInit, ofSide, bareWords, words, bytes, initOf, initLow}
 use Rattle.tables.specs.declared.TableType.{TableType}

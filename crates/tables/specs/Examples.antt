@@ -12,7 +12,7 @@ use Rattle.tables.specs.TableType.{tableWords, tableBytes, memoryWords, 
 use Rattle.tables.specs.GlobalType.{globalWords, globalBytes}
 use Rattle.tables.specs.TagType.{exceptionOf, tagWords, tagBytes}
 use Rattle.tables.specs.Table.{tableWithInit, words, bytes}
-use Rattle.tables.specs.declared.Maximum.the-variants.{None, Some}
+use Rattle.limits.specs.declared.Maximum.the-variants.{None, Some}
 use Rattle.tables.specs.declared.TableType.{TableType}
 use Rattle.tables.specs.declared.MemoryType.{MemoryType}
 use Rattle.tables.specs.declared.GlobalType.{GlobalType}

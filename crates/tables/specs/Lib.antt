@@ -1,7 +1,4 @@
 -- Table, memory, global and tag types: words and bytes over one abstract syntax; tables, and what the table section is as a section.
-pub mod Number64
-pub mod Flags
-pub mod Limits
 pub mod TableType
 pub mod GlobalType
 pub mod TagType

@@ -12,7 +12,7 @@ use Rattle.types.specs.Words.{refWords}
 use Rattle.types.specs.Bytes.{refBytes, heads-ref, byte-not}
 use Rattle.types.specs.Agree.{ref-agree}
 use Rattle.types.specs.declared.RefType.{RefType}
-use Rattle.tables.specs.Limits.{Limits, limitsWords, limitsBytes, limits-agree}
+use Rattle.limits.specs.Limits.{Limits, limitsWords, limitsBytes, limits-agree}
 use Rattle.tables.specs.declared.TableType.{TableType}
 use Rattle.tables.specs.declared.MemoryType.{MemoryType}
 

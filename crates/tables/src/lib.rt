@@ -2,6 +2,7 @@
 mod reader;
 mod writer;
 
+use limits::Maximum;
 pub use reader::read_global_type;
 pub use reader::read_memory_type;
 pub use reader::read_table_type;
@@ -14,12 +15,6 @@ pub use writer::walk_memory_type;
 pub use writer::walk_table_type;
 pub use writer::walk_tag_type;
 pub use writer::walk_words;
-
-// A maximum size, or that there is none.
-pub enum Maximum {
-    None,
-    Some(u64),
-}
 
 pub struct TableType {
     pub element_type: RefType,

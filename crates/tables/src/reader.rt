@@ -2,8 +2,8 @@
 use format::Done;
 use format::Walk;
 use format::append_word;
+use limits::read_limits;
 use numbers::ReadU32;
-use numbers::ReadU64;
 use refs::read_ref;
 use texts::Span;
 use texts::TextAt;
@@ -15,55 +15,12 @@ ghost use Prim.Native.Nat.{_≤_};
 ghost use lib.ListN.{length};
 ghost use Rattle.format.specs.Combine.{pair};
 ghost use Rattle.format.specs.Walk.{Walks};
-ghost use Rattle.leb128.specs.Formats.{u64};
 ghost use Rattle.exprs.specs.Laws.{expr};
-ghost use Rattle.tables.specs.Number64.{number64};
-ghost use Rattle.tables.specs.Limits.{sizesWords, sizesBytes, limitsWords, limitsBytes};
 ghost use Rattle.tables.specs.TableType.{tableWords, tableBytes, memoryWords, memoryBytes};
 ghost use Rattle.tables.specs.GlobalType.{globalWords, globalBytes};
 ghost use Rattle.tables.specs.TagType.{tagWords, tagBytes};
 ghost use Rattle.tables.specs.Table.{bareWords, bytes as bytesOf};
 ghost use Rattle.tables.specs.Located.{recordAt, initAt};
-
-// A 64-bit number, as low word, high word.
-fn read_size(b: &[u8], at: usize, out: &mut [u32], s: Done) -> Walk
-    ensures { λ r. ⌜ Walks u64 (number64 .print) (λ x. 9) (now (b .entry)) at (now (out .entry)) s (now (out .exit)) r ⌝ }
-{
-    let ReadU64::Value(v, p) = numbers::decode_u64(b, at) else {
-        return Walk::No;
-    };
-    let t = append_word((v & 0xFFFF_FFFF) as u32, out, s);
-    Walk::Got(p, append_word((v >> 32) as u32, out, t))
-}
-
-// The minimum, and the maximum if there is one.
-fn read_sizes(maximum: bool, b: &[u8], at: usize, out: &mut [u32], s: Done) -> Walk
-    ensures { λ r. ⌜ Walks (sizesBytes maximum) (sizesWords maximum .print) (λ x. 9) (now (b .entry)) at (now (out .entry)) s (now (out .exit)) r ⌝ }
-{
-    let Walk::Got(p, t) = read_size(b, at, out, s) else {
-        return Walk::No;
-    };
-    if maximum {
-        return read_size(b, p, out, t);
-    }
-    let none = Span { start: 0, len: 0 };
-    Walk::Got(p, append_span(none, out, t))
-}
-
-// Flags: bit 0 says that there is a maximum, bit 1 shared, bit 2 64-bit.
-fn read_limits(b: &[u8], at: usize, out: &mut [u32], s: Done) -> Walk
-    ensures { λ r. ⌜ Walks limitsBytes (limitsWords .print) (λ x. 9) (now (b .entry)) at (now (out .entry)) s (now (out .exit)) r ⌝ }
-{
-    if b.len() <= at {
-        return Walk::No;
-    }
-    let flags = b[at];
-    if flags >> 3 != 0 {
-        return Walk::No;
-    }
-    let t = append_word(flags as u32, out, s);
-    read_sizes(flags & 1 == 1, b, at + 1, out, t)
-}
 
 pub fn read_memory_type(b: &[u8], at: usize, out: &mut [u32], s: Done) -> Walk
     ensures { λ r. ⌜ Walks memoryBytes (memoryWords .print) (λ x. 9) (now (b .entry)) at (now (out .entry)) s (now (out .exit)) r ⌝ }

@@ -4,7 +4,7 @@ use mathlib.Core.List.{[]}
 use denote.Ref.{now}
 use Rattle.format.specs.Count.{adds-nil}
 use Rattle.format.specs.Walk.{walks-tail}
-use Rattle.tables.specs.Limits.{limitsWords, limitsBytes}
+use Rattle.limits.specs.Limits.{limitsWords, limitsBytes}
 use Rattle.tables.specs.TableType.{memoryOf, memoryWords, memoryBytes}
 use borrow.Author.Needs.{needs}
 use Rattle.tables.proofs.reader.read_memory_type.Statement.{statement}

@@ -6,8 +6,7 @@ use lib.ListN.{length, getD}
 use Rattle.format.specs.Read.{too-few}
 use Rattle.format.specs.Walk.{walks-no, walks-got}
 use Rattle.texts.specs.Text.{constant, sliceOf, refusalOf}
-use Rattle.texts.specs.Words.{span}
-use Rattle.tables.proofs.Limits.{span-two}
+use Rattle.texts.specs.Words.{span, span-at}
 use borrow.Author.Needs.{needs}
 use Rattle.tables.proofs.writer.walk_expr.Statement.{statement}
 use Rattle.tables.proofs.writer.walk_expr.Tie as tie
@@ -27,7 +26,7 @@ returns-3 c =
     let w = now (a .words) in
     let t = now (a .text) in
     walks-got span (sliceOf t) (refusalOf t constant) w (a .at) (now (a .out)) (a .s) _ (record { start = getD w (a .at) 0; len = getD w (a .at + 1) 0 }) (a .at + 2) _
-    (span-two w (a .at) (two (c .before .before .before .before .before .before)) (omega (arith, c .before .before .before .before .before .before .before .before .before .before .shared-slice-known .given (a .at))) (omega (arith, c .before .before .before .before .before .before .before .before .before .before .shared-slice-known .given (a .at + 1)))) (two (c .before .before .before .before .before .before)) (c .before .before .append-expr .ensures)
+    (span-at w (a .at) (two (c .before .before .before .before .before .before)) (omega (arith, c .before .before .before .before .before .before .before .before .before .before .shared-slice-known .given (a .at))) (omega (arith, c .before .before .before .before .before .before .before .before .before .before .shared-slice-known .given (a .at + 1)))) (two (c .before .before .before .before .before .before)) (c .before .before .append-expr .ensures)
 
 pub walk-expr-spec : {M : Type 1} → statement M
 walk-expr-spec =

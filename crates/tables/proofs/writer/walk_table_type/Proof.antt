@@ -3,7 +3,7 @@ use denote.Ref.{now}
 use Rattle.format.specs.Sequence.{joins-no, joins-got}
 use Rattle.types.specs.Words.{refWords}
 use Rattle.types.specs.Bytes.{refBytes}
-use Rattle.tables.specs.Limits.{limitsWords, limitsBytes}
+use Rattle.limits.specs.Limits.{limitsWords, limitsBytes}
 use Rattle.tables.specs.TableType.{table-joins}
 use borrow.Author.Needs.{needs}
 use Rattle.tables.proofs.writer.walk_table_type.Statement.{statement}

@@ -1,4 +1,4 @@
--- `tables::writer::walk_size` meets its contract. Assumes nothing.
+-- `limits::writer::walk_size` meets its contract. Assumes nothing.
 use denote.Ref.{now}
 use Prim.Native.Nat.{_+_, _*_, _^_, _≤_}
 use native.Mathlib.Omega.{arith}
@@ -6,11 +6,11 @@ use lib.ListN.{length, getD}
 use Rattle.format.specs.Read.{too-few}
 use Rattle.format.specs.Walk.{walks-no, walks-got}
 use Rattle.leb128.specs.Formats.{u64}
-use Rattle.tables.specs.Number64.{number64}
-use Rattle.tables.proofs.Limits.{number-two}
+use Rattle.limits.specs.Number64.{number64}
+use Rattle.limits.proofs.Limits.{number-two}
 use borrow.Author.Needs.{needs}
-use Rattle.tables.proofs.writer.walk_size.Statement.{statement}
-use Rattle.tables.proofs.writer.walk_size.Tie as tie
+use Rattle.limits.proofs.writer.walk_size.Statement.{statement}
+use Rattle.limits.proofs.writer.walk_size.Tie as tie
 
 two : (g : tie.Else2) → let a = g .before .before .before .before .args in a .at + 2 ≤ length (now (a .words))
 two g = omega (arith, g .if2 .left, g .before .if1 .left)

@@ -1,4 +1,4 @@
--- `tables::writer::walk_limits` meets its contract. Assumes nothing.
+-- `limits::writer::walk_limits` meets its contract. Assumes nothing.
 use denote.Ref.{now}
 use native.Mathlib.Omega.{arith}
 use Rattle.format.specs.Basic.{empty}
@@ -6,12 +6,12 @@ use Rattle.format.specs.Read.{drop-end}
 use Rattle.format.specs.Walk.{walks-no}
 use Rattle.leb128.specs.Formats.{u64}
 use Rattle.types.specs.Vals.{unused}
-use Rattle.tables.specs.Number64.{number64}
-use Rattle.tables.specs.Limits.{limitsWords, limitsBytes}
-use Rattle.tables.proofs.Limits.{limits-large, limits-walk}
+use Rattle.limits.specs.Number64.{number64}
+use Rattle.limits.specs.Limits.{limitsWords, limitsBytes}
+use Rattle.limits.proofs.Limits.{limits-large, limits-walk}
 use borrow.Author.Needs.{needs}
-use Rattle.tables.proofs.writer.walk_limits.Statement.{statement}
-use Rattle.tables.proofs.writer.walk_limits.Tie as tie
+use Rattle.limits.proofs.writer.walk_limits.Statement.{statement}
+use Rattle.limits.proofs.writer.walk_limits.Tie as tie
 
 returns : tie.Need-returns
 returns c = let a = c .before .before .before .args in walks-no limitsWords (limitsBytes .print) (λ x. 9) (now (a .words)) (a .at) (now (a .out)) (a .s) (now (a .out)) (rw (drop-end (now (a .words)) (a .at) (c .if1 .taken)))

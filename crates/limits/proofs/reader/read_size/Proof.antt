@@ -1,4 +1,4 @@
--- `tables::reader::read_size` meets its contract. Assumes nothing.
+-- `limits::reader::read_size` meets its contract. Assumes nothing.
 use mathlib.Core.Path.{refl, sym, ap, _∙_}
 use denote.Ref.{now}
 use mathlib.Core.List.{[], _∷_}
@@ -10,10 +10,10 @@ use Rattle.format.specs.Read.{told-found, told-nothing}
 use Rattle.format.specs.Walk.{walks-no, walks-got}
 use Rattle.leb128.specs.Formats.{u64}
 use Rattle.numbers.specs.Answers.{readU64}
-use Rattle.tables.specs.Number64.{number64}
+use Rattle.limits.specs.Number64.{number64}
 use borrow.Author.Needs.{needs}
-use Rattle.tables.proofs.reader.read_size.Statement.{statement}
-use Rattle.tables.proofs.reader.read_size.Tie as tie
+use Rattle.limits.proofs.reader.read_size.Statement.{statement}
+use Rattle.limits.proofs.reader.read_size.Tie as tie
 
 returns : tie.Need-returns
 returns c =

@@ -1,4 +1,4 @@
--- `tables::writer::walk_unused` meets its contract. Assumes nothing.
+-- `limits::writer::walk_unused` meets its contract. Assumes nothing.
 use denote.Ref.{now}
 use mathlib.Core.List.{[]}
 use Prim.Native.Nat.{_+_, _≤_}
@@ -9,8 +9,8 @@ use Rattle.format.specs.Read.{too-few}
 use Rattle.format.specs.Walk.{walks-no, walks-got}
 use Rattle.types.specs.Vals.{unused, unused-two, used-first, used-second}
 use borrow.Author.Needs.{needs}
-use Rattle.tables.proofs.writer.walk_unused.Statement.{statement}
-use Rattle.tables.proofs.writer.walk_unused.Tie as tie
+use Rattle.limits.proofs.writer.walk_unused.Statement.{statement}
+use Rattle.limits.proofs.writer.walk_unused.Tie as tie
 
 two : (g : tie.Else2) → let a = g .before .before .args in a .at + 2 ≤ length (now (a .words))
 two g = omega (arith, g .if2 .left, g .before .if1 .left)

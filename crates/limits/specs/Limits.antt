@@ -9,10 +9,10 @@ use Rattle.format.specs.Combine.{pair, dep, iso}
 use Rattle.format.specs.Agree.{Agree, agree-same, pair-agree}
 use Rattle.leb128.specs.Formats.{u64}
 use Rattle.types.specs.Vals.{unused}
-use Rattle.tables.specs.Number64.{number64}
-use Rattle.tables.specs.Flags.{Flags, flags}
-use Rattle.tables.specs.declared.Maximum.{Maximum}
-use Rattle.tables.specs.declared.Maximum.the-variants.{None, Some}
+use Rattle.limits.specs.Number64.{number64}
+use Rattle.limits.specs.Flags.{Flags, flags}
+use Rattle.limits.specs.declared.Maximum.{Maximum}
+use Rattle.limits.specs.declared.Maximum.the-variants.{None, Some}
 
 pub record Limits : Type 0 where
   pub wide : Bool

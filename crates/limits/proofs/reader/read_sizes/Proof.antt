@@ -1,4 +1,4 @@
--- `tables::reader::read_sizes` meets its contract: the minimum, and the maximum or none. Assumes nothing.
+-- `limits::reader::read_sizes` meets its contract: the minimum, and the maximum or none. Assumes nothing.
 use mathlib.Core.Path.{refl}
 use denote.Ref.{now}
 use Rattle.format.specs.Basic.{empty}
@@ -6,11 +6,11 @@ use Rattle.format.specs.Sequence.{joins-no, joins-got}
 use Rattle.format.specs.Walk.{walks-got, got-walks}
 use Rattle.leb128.specs.Formats.{u64}
 use Rattle.types.specs.Vals.{unused}
-use Rattle.tables.specs.Number64.{number64}
-use Rattle.tables.proofs.Limits.{sizes-joins, behind-by}
+use Rattle.limits.specs.Number64.{number64}
+use Rattle.limits.proofs.Limits.{sizes-joins, behind-by}
 use borrow.Author.Needs.{needs}
-use Rattle.tables.proofs.reader.read_sizes.Statement.{statement}
-use Rattle.tables.proofs.reader.read_sizes.Tie as tie
+use Rattle.limits.proofs.reader.read_sizes.Statement.{statement}
+use Rattle.limits.proofs.reader.read_sizes.Tie as tie
 
 returns : tie.Need-returns
 returns c =

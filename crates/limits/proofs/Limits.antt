@@ -1,4 +1,4 @@
--- Two words at a place, and limits there: by their flags, what they are. Assumes nothing.
+-- A number at a place, and limits there: by their flags, what they are. Assumes nothing.
 use mathlib.Core.Path.{_≡_, refl, sym, ap, subst, _∙_}
 use mathlib.Core.Bool.{Bool}
 use mathlib.Core.List.{List, [], _∷_}
@@ -17,21 +17,16 @@ use Rattle.format.specs.Sequence.{Joins, pair-joins, walks-known}
 use Rattle.format.specs.declared.Done.{Done}
 use Rattle.format.specs.declared.Walk.{Walk}
 use Rattle.format.specs.declared.Walk.the-variants as walks
-use Rattle.texts.specs.Words.{span}
-use Rattle.tables.specs.Number64.{number64}
-use Rattle.tables.specs.Flags.{flags, flagsOf, flags-to-of}
-use Rattle.tables.specs.Limits.{Behind, Parts, limitsOf, limits-to-of, behind, sizes, limits}
+use Rattle.limits.specs.Number64.{number64}
+use Rattle.limits.specs.Flags.{flags, flagsOf, flags-to-of}
+use Rattle.limits.specs.Limits.{Behind, Parts, limitsOf, limits-to-of, behind, sizes, limits}
 
 -- ---- two words
 
 module _ (w : List ℕ) (at : ℕ) (h : at + 2 ≤ length w) (p : getD w at 0 < 2 ^ 32) (q : getD w (at + 1) 0 < 2 ^ 32) where
   pub number-two : number64 .parse (drop at w) ≡ got (getD w at 0 + getD w (at + 1) 0 * 2 ^ 32) (drop (at + 2) w)
   number-two = rw (drop-two w at h, lt-ltb (getD w at 0) (2 ^ 32) p, lt-ltb (getD w (at + 1) 0) (2 ^ 32) q)
-
-  pub span-two : span .parse (drop at w) ≡ got (record { start = getD w at 0; len = getD w (at + 1) 0 }) (drop (at + 2) w)
-  span-two = rw (drop-two w at h, lt-ltb (getD w at 0) (2 ^ 32) p, lt-ltb (getD w (at + 1) 0) (2 ^ 32) q)
-
--- ---- limits, by their flags: they are walked by walking what stands behind
+  -- ---- limits, by their flags: they are walked by walking what stands behind
 
 module _ (N N′ : Format ℕ) (Z Z′ : Format (Unit {0})) (w : List ℕ) (at : ℕ) (h : at < length w) (old : List ℕ) (s : Done) where
   pub limits-large : (new : List ℕ) → 8 ≤ getD w at 0 → Walks (limits N Z) (limits N′ Z′ .print) (λ l. 9) w at old s new walks.No
