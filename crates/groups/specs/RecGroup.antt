@@ -15,8 +15,9 @@ use Rattle.format.specs.Leads.{heads-led}
 use Rattle.format.specs.Lists.{many}
 use Rattle.leb128.specs.Formats.{u32}
 use Rattle.texts.specs.Words.{word}
-use Rattle.subtypes.specs.Composite.{func, array, struct, cont}
-use Rattle.subtypes.specs.SubType.{SubType, partsOf, subWords, subBytes, supersLead, sharedBytes, shared-no-prefix, heads-shared, prefix-begins}
+use Rattle.composites.specs.Composite.{func, array, struct, cont}
+use Rattle.prefixes.specs.Prefix.{supersLead, prefix-begins}
+use Rattle.subtypes.specs.SubType.{SubType, partsOf, subWords, subBytes, sharedBytes, shared-no-prefix, heads-shared}
 
 pub data RecGroup : Type 0 where
   single : SubType → RecGroup

@@ -8,7 +8,8 @@ use Rattle.texts.specs.Words.{word}
 use Rattle.texts.specs.Section as section
 use Rattle.subtypes.specs.SubType.{subWords, subBytes}
 use Rattle.groups.specs.RecGroup.{RecGroup, sideOf, manyWords, manyBytes, groupWords, groupBytes}
-use Rattle.subtypes.specs.Agree.{index-agree, sub-agree}
+use Rattle.lists.specs.Agree.{index-agree}
+use Rattle.subtypes.specs.Agree.{sub-agree}
 
 pub group-agree : Agree groupWords groupBytes
 group-agree g = alt-agree (tag 1 manyWords) (tag 0x4E manyBytes) (tag 0 (tag 1 subWords)) subBytes (many-agree word u32 subWords subBytes index-agree sub-agree) sub-agree (is 1) (is 0x4E) (sideOf g)

@@ -1,4 +1,3 @@
--- Composite types and subtypes: words and bytes over one abstract syntax.
-pub mod Composite
+-- Subtypes: words and bytes over one abstract syntax.
 pub mod SubType
 pub mod Agree

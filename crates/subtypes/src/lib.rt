@@ -1,4 +1,4 @@
-// Composite types and subtypes of wasm-encoder's types.rs: their records and their bytes.
+// Subtypes of wasm-encoder's types.rs: their records and their bytes.
 mod reader;
 mod writer;
 

@@ -6,7 +6,7 @@ use Rattle.format.specs.Leads.{option, led-joins}
 use Rattle.format.specs.Sequence.{joins-no, joins-got}
 use Rattle.leb128.specs.Formats.{u32}
 use Rattle.texts.specs.Words.{word}
-use Rattle.subtypes.specs.Composite.{innerWords, innerBytes}
+use Rattle.composites.specs.Composite.{innerWords, innerBytes}
 use Rattle.subtypes.specs.SubType.{descriptorBytes, descriptor-no-4C, inner-no-4D}
 use borrow.Author.Needs.{needs}
 use Rattle.subtypes.proofs.reader.read_described.Statement.{statement}

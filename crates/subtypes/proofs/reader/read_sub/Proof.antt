@@ -5,7 +5,8 @@ use Rattle.format.specs.Basic.{flag}
 use Rattle.format.specs.Combine.{pair}
 use Rattle.format.specs.Leads.{mark, led-joins, led-made}
 use Rattle.format.specs.Sequence.{joins-no, joins-got}
-use Rattle.subtypes.specs.SubType.{ofParts, supersWords, supersLead, sharedBytes, shared-no-prefix, describedWords, describedBytes, described-no-65, subWords, subBytes}
+use Rattle.prefixes.specs.Prefix.{supersWords, supersLead}
+use Rattle.subtypes.specs.SubType.{ofParts, sharedBytes, shared-no-prefix, describedWords, describedBytes, described-no-65, subWords, subBytes}
 use borrow.Author.Needs.{needs}
 use Rattle.subtypes.proofs.reader.read_sub.Statement.{statement}
 use Rattle.subtypes.proofs.reader.read_sub.Tie as tie

@@ -5,7 +5,8 @@ use Rattle.format.specs.Basic.{flag}
 use Rattle.format.specs.Combine.{pair}
 use Rattle.format.specs.Leads.{mark}
 use Rattle.format.specs.Sequence.{joins-no, joins-got, joins, pair-joins}
-use Rattle.subtypes.specs.SubType.{ofParts, supersWords, supersLead, sharedBytes, describedWords, describedBytes, subWords, subBytes}
+use Rattle.prefixes.specs.Prefix.{supersWords, supersLead}
+use Rattle.subtypes.specs.SubType.{ofParts, sharedBytes, describedWords, describedBytes, subWords, subBytes}
 use borrow.Author.Needs.{needs}
 use Rattle.subtypes.proofs.writer.walk_sub.Statement.{statement}
 use Rattle.subtypes.proofs.writer.walk_sub.Tie as tie
