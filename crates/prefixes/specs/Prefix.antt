@@ -71,6 +71,16 @@ supersLead =
       to-of = prefix-part;
     })
 
+-- which is nothing, 4F and the list, or 50 and the list
+pub prints-none : supersLead .print (true, []) ≡ []
+prints-none = refl
+
+pub prints-final : (x : ℕ) (xs : List ℕ) → supersLead .print (true, x ∷ xs) ≡ 0x4F ∷ listBytes Index .print (x ∷ xs)
+prints-final x xs = refl
+
+pub prints-open : (xs : List ℕ) → supersLead .print (false, xs) ≡ 0x50 ∷ listBytes Index .print xs
+prints-open xs = refl
+
 -- it begins with 50 or 4F
 pub prefix-begins : (p : ℕ → Bool) (v : Bool) → p 0x50 ≡ v → p 0x4F ≡ v → (x : ℕ) → supersLead .begins x ≡ true → p x ≡ v
 prefix-begins p v h k x e = go (is 0x50 x) refl (is 0x4F x) refl e

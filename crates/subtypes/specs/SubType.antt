@@ -3,7 +3,7 @@
 use mathlib.Core.Path.{_≡_, refl}
 use mathlib.Core.Bool.{Bool, false}
 use mathlib.Core.Option.{Option}
-use mathlib.Core.List.{List}
+use mathlib.Core.List.{List, _++_}
 use Prim.Native.Nat.{ℕ}
 use Rattle.format.specs.Format.{Format}
 use Rattle.format.specs.Basic.{flag}
@@ -46,7 +46,7 @@ describedWords = pair (opt word) (pair (opt word) innerWords)
 abbrev pub subWords : Format SubType
 subWords = iso (pair supersWords (pair flag describedWords)) partsOf ofParts (λ s. refl) (λ p. refl)
 
--- ---- then 65 if shared, 4C index if describes, 4D index if descriptor, then the composite type
+-- ---- bytes: the prefix, then 65 if shared, 4C index if describes, 4D index if descriptor, then the composite type
 
 pub inner-no-4D : Heads innerBytes (option 0x4D u32 .begins) false
 inner-no-4D = heads-inner (option 0x4D u32 .begins) false (elim [ func ↦ refl | array ↦ refl | struct ↦ refl | cont ↦ refl ])
@@ -80,3 +80,8 @@ shared-no-prefix = heads-shared (supersLead .begins) false refl refl refl (elim 
 
 abbrev pub subBytes : Format SubType
 subBytes = iso (led supersLead sharedBytes shared-no-prefix) partsOf ofParts (λ s. refl) (λ p. refl)
+
+-- which is this
+pub sub-print : (s : SubType) → subBytes .print s
+    ≡ supersLead .print (s .final, s .supers) ++ (mark 0x65 .print (s .shared) ++ (option 0x4C u32 .print (s .describes) ++ (option 0x4D u32 .print (s .descriptor) ++ innerBytes .print (s .inner))))
+sub-print s = refl
