@@ -1,11 +1,11 @@
 -- Data segments (document 01, Records and Items to bytes; Core Specification 3.0, Binary Format, Modules, Data Section): words and bytes of one abstract
 -- syntax over any text. A record is a segment over spans, an item one over bytes. Assumes nothing.
-use mathlib.Core.Path.{_≡_, refl, sym, ap, subst}
+use mathlib.Core.Path.{_≡_, refl, sym, ap}
 use mathlib.Core.Logic.{_⊎_, inl, inr}
 use mathlib.Core.Bool.{Bool, true, false, not, true≢false}
-use mathlib.Core.Option.{Option, none, some}
+use mathlib.Core.Option.{some}
 use mathlib.Core.List.{List, [], _∷_}
-use Prim.Native.Nat.{ℕ, zero, suc, _<_, _^_}
+use Prim.Native.Nat.{ℕ, _<_, _^_}
 use borrow.Author.Tests.{eq-eqb}
 use Rattle.format.specs.Parsed.{Parsed, fail, got}
 use Rattle.format.specs.Format.{Format}

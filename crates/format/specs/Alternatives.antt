@@ -11,7 +11,7 @@ use lib.ListN.{length}
 use borrow.Author.Tests.{eq-eqb}
 use Rattle.format.specs.Parsed.{Parsed, fail, got, fail-got, bind, map, map-inv, fromOption}
 use Rattle.format.specs.Format.{Format}
-use Rattle.format.specs.Basic.{number, tag, lit, empty, via}
+use Rattle.format.specs.Basic.{number, tag, lit, via}
 use Rattle.format.specs.Combine.{dep, pair, iso}
 
 -- everything that F prints begins with a number at which p is v

@@ -10,7 +10,7 @@ use lib.Dec.{ltb, eqb}
 use lib.ListN.{length, take, drop, length-append}
 use lib.Seq.{take-at, length-take-le}
 use borrow.Author.Tests.{lt-ltb, le-ltb, ltb-false, le-leb}
-use Rattle.format.specs.Lists.{All, all-more, prints, prints-more}
+use Rattle.format.specs.Lists.{all-more, prints, prints-more}
 use Rattle.format.specs.Runs.{run, run-only, run-back}
 use Rattle.format.specs.Answers.{answer, NoneHolds, given-exactly, accepted-exactly, neither, settled, settled-accepts, settled-refuses, settled-exactly, one-stands}
 use Rattle.format.specs.Write.{todo}

@@ -4,10 +4,9 @@ use mathlib.Core.Bool.{true, false}
 use mathlib.Core.List.{List, _∷_}
 use Prim.Native.Nat.{ℕ, suc, _+_, _*_, _-_, _/_, _≤_, _<_}
 use native.Mathlib.Omega.{arith}
-use lib.ListN.{length, getD, drop, set, length-append, length-set}
+use lib.ListN.{length, getD, drop, set, length-set}
 use borrow.Author.Tests.{lt-ltb, le-leb, lt-leb}
 use Rattle.format.specs.Parsed.{Parsed, fail, got, got-value, fail-got, bind, map}
-use Rattle.format.specs.Lists.{prints, times-only}
 use Rattle.format.specs.Read.{drop-more}
 use Rattle.format.specs.Write.{over, todo, todo-start, todo-end, todo-byte}
 use Rattle.frames.specs.Frames.{valueOf, word32}

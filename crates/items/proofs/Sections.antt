@@ -5,7 +5,7 @@ use mathlib.Core.List.{List, [], _∷_, _++_}
 use Prim.Native.Nat.{ℕ, _<_, _≤_}
 use native.Mathlib.Omega.{arith}
 use lib.ListN.{length, getD, drop}
-use Rattle.format.specs.Parsed.{Parsed, fail, map}
+use Rattle.format.specs.Parsed.{fail}
 use Rattle.format.specs.Format.{refuses}
 use Rattle.format.specs.Basic.{find, find-only}
 use Rattle.format.specs.Count.{Adds, adds-nil}
@@ -19,7 +19,7 @@ use Rattle.frames.specs.declared.SectionId.{SectionId}
 use Rattle.frames.specs.declared.SectionId.the-variants.{Types, Imports, Tables, Elements, Data}
 use Rattle.texts.specs.Text.{lowestOf, lowest-small}
 use Rattle.texts.specs.declared.Span.{Span}
-use Rattle.items.specs.Record.{Body, section, Record, ids, id-full, idWord, words, textsOf, itemOf, lowOf, recordOf, itemsOf, beginsIn}
+use Rattle.items.specs.Record.{Body, section, ids, id-full, idWord, words, textsOf, itemOf, lowOf, recordOf, itemsOf, beginsIn}
 
 -- there is no word
 pub word-empty : (w : List ℕ) → length w ≤ 0 → words .parse (drop 0 w) ≡ fail

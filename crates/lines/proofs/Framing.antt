@@ -1,23 +1,18 @@
 -- The parts of a line's frame, as they are read. Assumes nothing.
 use mathlib.Core.Path.{_≡_, refl, sym, ap, _∙_}
-use mathlib.Core.Option.{none, some}
+use mathlib.Core.Option.{none}
 use mathlib.Core.List.{List, [], _∷_}
 use Prim.Native.Nat.{ℕ, _+_, _*_, _-_, _≤_, _<_}
 use native.Mathlib.Omega.{arith}
-use lib.ListN.{length, take, drop, getD, length-append, length-drop, List·getD-append}
-use lib.Seq.{drop-at, drop-drop, drop-cons, take-append-le}
+use lib.ListN.{length, drop, getD, length-append, length-drop}
+use lib.Seq.{drop-at, drop-drop, drop-cons}
 use borrow.Author.Tests.{lt-ltb, eq-eqb, ne-eqb}
 use Rattle.format.specs.Parsed.{Parsed, fail, got, bind}
 use Rattle.format.specs.Format.{Format}
 use Rattle.format.specs.Lists.{prints, times-only}
-use Rattle.format.specs.Write.{over}
 use Rattle.frames.specs.Frames.{word32}
-use Rattle.hex.specs.Hex.{lineBytes}
-use Rattle.hex.specs.Sum.{checkOf}
 use Rattle.hex.specs.Words.{wordsIn, words-long}
 use Rattle.hex.specs.Frame.{adds, finishes, word16, wordList, whole, frameOf}
-use Rattle.hex.specs.Line.{digitsMost}
-use Rattle.hex.specs.Held.{Holds, holds-none, right-sum, wrong-sum}
 
 -- ---- the kind
 

@@ -3,7 +3,7 @@ use mathlib.Core.Logic.{_↔_}
 use mathlib.Core.Bool.{Bool, true, false}
 use mathlib.Core.Option.{Option, none, some}
 use Prim.Native.Nat.{ℕ}
-use Rattle.format.specs.Alternatives.{is, opt}
+use Rattle.format.specs.Alternatives.{opt}
 use Rattle.format.specs.Agree.{Agree}
 use Rattle.format.specs.Leads.{option, mark}
 use Rattle.leb128.specs.Formats.{u32}

@@ -2,7 +2,6 @@
 use mathlib.Core.Path.{_≡_, refl}
 use mathlib.Core.Bool.{true, false}
 use mathlib.Core.List.{[], _∷_}
-use Prim.Native.Nat.{ℕ}
 use Rattle.leb128.specs.Leb.{leb, lebBy}
 use Rattle.types.specs.Bytes.{nullOf}
 use Rattle.types.specs.declared.AbstractHeapType.the-variants.{Func}

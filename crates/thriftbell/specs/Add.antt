@@ -1,16 +1,15 @@
 -- What adding a record answers and leaves, for every input (document 01, Store and module; Answers by number, Add: 1 to 7, lowest first). Assumes nothing.
 use mathlib.Core.Path.{_≡_, refl, sym, ap, _∙_}
 use mathlib.Core.Logic.{_↔_}
-use mathlib.Core.Bool.{Bool, true, false, cond, not}
+use mathlib.Core.Bool.{Bool, true, false, cond}
 use mathlib.Core.List.{List, [], _∷_, _++_}
 use Prim.Native.Nat.{ℕ, _+_, _≤_, _<_}
 use native.Mathlib.Omega.{arith}
-use lib.Dec.{eqb, ltb}
+use lib.Dec.{eqb}
 use lib.ListN.{length, take, drop}
-use borrow.Author.Tests.{lt-ltb, le-ltb, eq-eqb, ne-eqb, eqb-true, eqb-false}
-use Rattle.format.specs.Answers.{answer, NoneHolds, given-exactly, accepted-exactly, answer-then, settled, settled-accepts, settled-refuses, settled-exactly, one-stands}
+use borrow.Author.Tests.{lt-ltb, le-ltb, eq-eqb, ne-eqb}
+use Rattle.format.specs.Answers.{answer, NoneHolds, given-exactly, accepted-exactly, answer-then, settled, settled-accepts, settled-refuses, settled-exactly}
 use Rattle.frames.specs.Append.{Outcome, refused, storeMost, isOver, isFull, appended}
-use Rattle.frames.specs.declared.State.{State}
 use Rattle.texts.specs.Judge as judge
 use Rattle.texts.specs.Judge.{why, itemIn}
 use Rattle.items.specs.Record.{records}

@@ -6,13 +6,13 @@ use mathlib.Core.Option.{Option, none, some}
 use mathlib.Core.List.{List, [], _∷_}
 use Prim.Native.Nat.{ℕ, _≤_, _<_}
 use native.Mathlib.Omega.{arith}
-use lib.Dec.{eqb, ltb}
+use lib.Dec.{ltb}
 use lib.ListN.{length, take, drop}
 use borrow.Author.Tests.{lt-ltb, le-ltb, le-leb, lt-leb}
 use Rattle.format.specs.Parsed.{Parsed, fail, got}
 use Rattle.format.specs.Read.{placeOf}
 use Rattle.format.specs.Write.{over}
-use Rattle.format.specs.Answers.{answer, NoneHolds, given-exactly, accepted-exactly, settled, settled-accepts, settled-refuses, settled-exactly, one-stands}
+use Rattle.format.specs.Answers.{answer, NoneHolds, given-exactly, accepted-exactly, settled, settled-accepts, settled-refuses, settled-exactly}
 use Rattle.texts.specs.Judge.{wordsMost}
 use Rattle.items.specs.Record.{Record, beginsIn, readIn, recordOf, record-some}
 use Rattle.thriftbell.specs.declared.Taken.{Taken}

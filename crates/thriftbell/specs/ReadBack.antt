@@ -16,7 +16,7 @@ use Rattle.texts.specs.Judge.{recordIn, itemIn, why, fine}
 use Rattle.texts.specs.declared.Span.{Span}
 use Rattle.items.specs.Record.{Record, records, resolved, readIn, recordOf}
 use Rattle.items.specs.Reading.{add-reads, ReadAdds, read-adds, none-begins}
-use Rattle.thriftbell.specs.Read.{frontOf, readOf, isNothing, wordsIn, reading, eleven-exactly, no-item, item-read}
+use Rattle.thriftbell.specs.Read.{frontOf, isNothing, wordsIn, reading, eleven-exactly, no-item, item-read}
 
 short : (bytes : List ℕ) → length (frontOf bytes) ≤ 65536
 short bytes = simp length-take (omega arith)

@@ -1,9 +1,8 @@
 -- `thriftbell::add` meets its contract: head and item are written into the rest of the store, one behind the other. Assumes nothing.
 use mathlib.Core.Path.{_≡_, refl, sym, ap, _∙_}
-use mathlib.Core.List.{List}
-use Prim.Native.Nat.{ℕ, _+_, _-_, _≤_, _<_}
+use Prim.Native.Nat.{_+_, _-_, _≤_, _<_}
 use native.Mathlib.Omega.{arith}
-use lib.ListN.{length, getD, drop, length-drop}
+use lib.ListN.{length, getD, length-drop}
 use denote.Ref.{now}
 use borrow.Author.Needs.{needs}
 use borrow.Rule.Slice.PartMut.{putMid, midOf, same-len-mid}

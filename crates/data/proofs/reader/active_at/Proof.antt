@@ -5,7 +5,7 @@ use native.Mathlib.Omega.{arith}
 use lib.ListN.{length, drop}
 use denote.Ref.{now}
 use borrow.Author.Needs.{needs}
-use Rattle.format.specs.Parsed.{fail, got, map}
+use Rattle.format.specs.Parsed.{fail, map}
 use Rattle.format.specs.Sized.{sized}
 use Rattle.leb128.specs.Formats.{u32}
 use Rattle.exprs.specs.Laws.{expr}

@@ -3,7 +3,6 @@ use denote.Ref.{now}
 use mathlib.Core.Path.{refl}
 use mathlib.Core.List.{[], _∷_}
 use Prim.Native.Nat.{_+_}
-use native.Mathlib.Omega.{arith}
 use Rattle.format.specs.Count.{adds-seq}
 use Rattle.format.specs.Read.{drop-end}
 use Rattle.format.specs.Walk.{walks-no, walks-tail}

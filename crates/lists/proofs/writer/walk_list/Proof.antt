@@ -2,7 +2,7 @@
 use denote.Ref.{now}
 use Prim.Native.Nat.{_+_}
 use native.Mathlib.Omega.{arith}
-use lib.ListN.{getD, drop, length-drop}
+use lib.ListN.{getD, length-drop}
 use Rattle.format.specs.Read.{drop-end}
 use Rattle.format.specs.Loop.{counted-no, counted-short, counted-got}
 use Rattle.leb128.specs.Leb.{uleb}

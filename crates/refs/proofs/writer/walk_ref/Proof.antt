@@ -1,5 +1,5 @@
 -- `refs::writer::walk_ref` meets its contract. Assumes nothing.
-use mathlib.Core.Path.{refl, sym, _∙_}
+use mathlib.Core.Path.{sym, _∙_}
 use denote.Ref.{now}
 use mathlib.Core.Option.{none, some}
 use Prim.Native.Nat.{_+_, _≤_}

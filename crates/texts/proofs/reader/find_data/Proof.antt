@@ -1,6 +1,6 @@
 -- `texts::find_data` meets its contract. Assumes nothing.
 use mathlib.Core.Path.{_≡_, sym, ap, _∙_}
-use Prim.Native.Nat.{ℕ, _+_, _-_, _≤_, _<_}
+use Prim.Native.Nat.{_+_, _-_, _≤_, _<_}
 use native.Mathlib.Omega.{arith}
 use lib.IntN.{pos}
 use lib.ListN.{length, take, drop, length-take, length-drop}
@@ -13,8 +13,6 @@ use Rattle.leb128.specs.Leb.{uleb, unsigned}
 use Rattle.leb128.specs.LebLaws.{leb-some}
 use Rattle.leb128.specs.Formats.{u32}
 use Rattle.numbers.specs.Answers.{readU32}
-use Rattle.texts.specs.Place.{spanAt}
-use Rattle.texts.specs.declared.TextAt.the-variants.{At}
 use Rattle.texts.proofs.reader.find_data.Statement.{statement}
 use Rattle.texts.proofs.reader.find_data.Tie as tie
 

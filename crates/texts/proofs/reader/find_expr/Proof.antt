@@ -1,11 +1,10 @@
 -- `texts::find_expr` meets its contract. Assumes nothing.
 use mathlib.Core.Path.{_≡_, sym, ap, _∙_}
-use Prim.Native.Nat.{ℕ, _-_, _≤_}
+use Prim.Native.Nat.{_-_, _≤_}
 use native.Mathlib.Omega.{arith}
 use lib.ListN.{length, take, drop, length-take, length-drop, length-append}
 use denote.Ref.{now}
 use borrow.Author.Needs.{needs}
-use borrow.Rule.Slice.PartMut.{midOf}
 use Rattle.format.specs.Read.{drop-end}
 use Rattle.format.specs.Write.{rest-lent}
 use Rattle.exprs.specs.Scan.{scan, exprEnd}

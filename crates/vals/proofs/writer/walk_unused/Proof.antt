@@ -1,5 +1,4 @@
 -- `vals::writer::walk_unused` meets its contract. Assumes nothing.
-use mathlib.Core.Path.{refl}
 use denote.Ref.{now}
 use mathlib.Core.List.{[], _∷_}
 use Prim.Native.Nat.{_+_, _≤_}
