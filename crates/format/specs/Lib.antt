@@ -15,5 +15,6 @@ pub mod Count
 pub mod Walk
 pub mod Sequence
 pub mod Leads
+pub mod Told
 pub mod Loop
 pub mod RoundTrip

@@ -7,7 +7,7 @@ use lib.IntN.{pos}
 use Rattle.format.specs.Basic.{bit}
 use Rattle.leb128.specs.Leb.{uleb, sleb}
 use Rattle.types.specs.Abstract.{byteOf}
-use Rattle.types.specs.Words.{heapKind, heapShared, heapIndex, refWords}
+use Rattle.types.specs.Words.{heapKind, heapShared, refTo}
 use Rattle.types.specs.Bytes.{heapBytes, refBytes, isAbs}
 use Rattle.types.specs.declared.AbstractHeapType.{AbstractHeapType}
 use Rattle.types.specs.declared.RefType.{RefType}
@@ -42,7 +42,7 @@ null-is false t e h = absurd (true≢false (sym e))
 pub non-null-is : (n : Bool) (t : HeapType) → n ≡ false → 0x64 ∷ heapBytes .print t ≡ refBytes .print (record { nullable = n; «heap_type» = t })
 non-null-is n t e = rw e
 
--- a reference's words, put together
-pub words-are : (r : RefType) (k n s x : ℕ) (f : Bool) → k ≡ heapKind (r .«heap_type») → n ≡ bit (r .nullable) → s ≡ bit f → f ≡ heapShared (r .«heap_type») → x ≡ heapIndex (r .«heap_type»)
-    → (k + 16 * n + 32 * s) ∷ x ∷ [] ≡ refWords .print r
-words-are r k n s x f a b c d e = rw (a, b, c, d, e)
+-- word h, put together
+pub head-is : (r : RefType) (k n s : ℕ) (f : Bool) → k ≡ heapKind (r .«heap_type») → n ≡ bit (r .nullable) → s ≡ bit f → f ≡ heapShared (r .«heap_type»)
+    → k + 16 * n + 32 * s ≡ refTo r .0
+head-is r k n s f a b c d = rw (a, b, c, d)

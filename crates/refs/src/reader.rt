@@ -15,7 +15,7 @@ ghost use Rattle.format.specs.Basic.{bit as bitOf};
 ghost use Rattle.format.specs.Count.{Adds};
 ghost use Rattle.format.specs.Parsed.{map};
 ghost use Rattle.format.specs.Walk.{Walks};
-ghost use Rattle.types.specs.Words.{refWords};
+ghost use Rattle.types.specs.Words.{refTo, refWords};
 ghost use Rattle.types.specs.Bytes.{absOf, absBytes, idxFrom, idxBytes, heapBytes, refBytes};
 ghost use Rattle.types.specs.Answers.{heapAt, refAt, refPlaced};
 
@@ -129,14 +129,20 @@ fn bit(f: bool) -> u32
     if f { 1 } else { 0 }
 }
 
-fn append_ref_words(r: RefType, out: &mut [u32], s: Done) -> Done
+// Word h of a record: the kind, bit 4 nullable, bit 5 shared.
+pub fn head(r: RefType) -> u32
+    ensures { λ h. ⌜ h ≡ refTo r .0 ⌝ }
+{
+    let heap = r.heap_type;
+    heap.kind() + 16 * bit(r.nullable) + 32 * bit(heap.is_shared())
+}
+
+// Words h and x.
+pub fn append_ref_words(r: RefType, out: &mut [u32], s: Done) -> Done
     ensures { λ d. ⌜ Adds (refWords .print r) 9 (now (out .entry)) s (now (out .exit)) d ⌝ }
 {
     let heap = r.heap_type;
-    let nullable = bit(r.nullable);
-    let shared = bit(heap.is_shared());
-    let h = heap.kind() + 16 * nullable + 32 * shared;
-    let t = append_word(h, out, s);
+    let t = append_word(head(r), out, s);
     append_word(heap.index(), out, t)
 }
 
