@@ -1,0 +1,182 @@
+-- Imports at a place: the form by the first word, and by the two bytes behind the module's name. Assumes nothing.
+use mathlib.Core.Path.{_≡_, refl, sym, ap, subst, _∙_}
+use mathlib.Core.Logic.{⊎-elim}
+use mathlib.Core.Bool.{Bool, true, false, cond}
+use mathlib.Core.List.{List, [], _∷_, _++_}
+use Prim.Native.Nat.{ℕ, _+_, _-_, _<_, _≤_}
+use native.Mathlib.Omega.{arith}
+use lib.IntN.{pos}
+use lib.Dec.{eqb}
+use lib.ListN.{length, getD, drop, length-append, length-drop}
+use borrow.Author.Tests.{ne-eqb, eqb-true}
+use Rattle.format.specs.Parsed.{Parsed, fail, got, bind, map}
+use Rattle.format.specs.Count.{Adds, adds-nil}
+use Rattle.format.specs.Read.{drop-more, drop-end, drop-two, one-read, none-read}
+use Rattle.format.specs.Sequence.{dep-known}
+use Rattle.format.specs.Told.{one-at}
+use Rattle.format.specs.Walk.{walks-no, walks-tail, walked-as}
+use Rattle.format.specs.Write.{fits-or}
+use Rattle.format.specs.declared.Done.{Done}
+use Rattle.format.specs.declared.Walk.{Walk}
+use Rattle.format.specs.declared.Walk.the-variants as walks
+use Rattle.leb128.specs.Leb.{uleb, unsigned}
+use Rattle.leb128.specs.LebLaws.{leb-some}
+use Rattle.texts.specs.Section.{Section}
+use Rattle.texts.specs.Words.{span}
+use Rattle.texts.specs.Place.{sizedAt, textAt, stands, stands-not}
+use Rattle.texts.specs.declared.Span.{Span}
+use Rattle.texts.specs.declared.TextAt.the-variants.{At, No}
+use Rattle.parts.specs.Text.{nameBytes}
+use Rattle.parts.specs.Both.{behind}
+use Rattle.parts.specs.Writing.{Writing, itemOf, lowOf, lowest-behind}
+use Rattle.parts.specs.Reading.{Reading, recordAt, behind-reads}
+use Rattle.imports.specs.Entity.{entityBytes}
+use Rattle.imports.specs.Forms.{MemberOf, member, Rest, rest, form, Imports, formOf, formWord, words}
+use Rattle.imports.specs.Compact.{formIn, formAt, bytes}
+use Rattle.imports.specs.Section.{importSection}
+use Rattle.imports.specs.declared.Form.{Form}
+use Rattle.imports.specs.declared.Form.the-variants.{Single, Compact1, Compact2}
+use Rattle.imports.specs.declared.Member.{Member}
+use Rattle.imports.specs.declared.Member.the-variants.{Import, Name}
+
+-- ---- the form by two bytes
+
+module _ (b : List ℕ) (at : ℕ) where
+  pub form-none : length b ≤ at → Single ≡ formAt (drop at b)
+  form-none h = rw (drop-end b at h)
+
+  module _ (h : at < length b) where
+    pub form-one : length b - at < 2 → Single ≡ formAt (drop at b)
+    form-one k = rw (drop-more b at h, drop-end b (at + 1) (omega arith))
+
+    module _ (k : 2 ≤ length b - at) where
+      two : drop at b ≡ getD b at 0 ∷ getD b (at + 1) 0 ∷ drop (at + 2) b
+      two = drop-two b at (omega arith)
+
+      pub form-other : (getD b at 0 ≡ 0 → ⊥) → Single ≡ formAt (drop at b)
+      form-other n = rw (two, ne-eqb (getD b at 0) 0 n)
+
+      module _ (z : getD b at 0 ≡ 0) where
+        pub form-compact1 : getD b (at + 1) 0 ≡ 0x7F → Compact1 ≡ formAt (drop at b)
+        form-compact1 e = rw (two, z, e)
+
+        pub form-compact2 : getD b (at + 1) 0 ≡ 0x7E → Compact2 ≡ formAt (drop at b)
+        form-compact2 e = rw (two, z, e)
+
+        pub form-single : (getD b (at + 1) 0 ≡ 0x7F → ⊥) → (getD b (at + 1) 0 ≡ 0x7E → ⊥) → Single ≡ formAt (drop at b)
+        form-single m n = rw (two, z, ne-eqb (getD b (at + 1) 0) 0x7F m, ne-eqb (getD b (at + 1) 0) 0x7E n)
+
+-- ---- members: each takes a word, and a byte
+
+pub words-long : (m : Member) (a : MemberOf m Span) → member m .words .Ok a → 0 < length (member m .words .print a)
+words-long Import a ok = omega arith
+words-long Name a ok = omega arith
+
+name-long : (n : List ℕ) → 0 < length (nameBytes .print n)
+name-long n = omega (arith, leb-some unsigned (pos (length n)), length-append (uleb (length n)) n)
+
+pub bytes-long : (m : Member) (a : MemberOf m (List ℕ)) → member m .bytes .Ok a → 0 < length (member m .bytes .print a)
+bytes-long Import a ok = omega (arith, name-long (a .0), length-append (nameBytes .print (a .0)) (entityBytes .print (a .1)))
+bytes-long Name a ok = name-long a
+
+-- ---- writing: the form by the first word
+
+module _ (t w : List ℕ) (at : ℕ) (old : List ℕ) (s : Done) (new : List ℕ) where
+  pub words-empty : length w ≤ at → Writing importSection t w at old s new walks.No
+  words-empty h = walks-no words (itemOf importSection t) (lowOf importSection t) w at old s new (rw (drop-end w at h))
+
+  module _ (h : at < length w) where
+    pub form-word : (f : Form) → getD w at 0 ≡ formOf f → (r : Walk) → Writing (form f) t w (at + 1) old s new r → Writing importSection t w at old s new r
+    form-word f e r x =
+        walks-tail (form f .words) (itemOf (form f) t) (lowOf (form f) t) words (itemOf importSection t) (lowOf importSection t) (λ v. (f, v)) [] 9 w (at + 1) at old s old s new r
+        (dep-known formWord (λ f. form f .words) f (drop at w) (drop (at + 1) w) (one-read formWord f (formOf f) tt refl w at h e))
+        (λ v. refl) (λ v. lowest-behind t (form f .texts v)) (adds-nil old s) x
+
+    pub no-form : ((f : Form) → getD w at 0 ≡ formOf f → ⊥) → Writing importSection t w at old s new walks.No
+    no-form n = walks-no words (itemOf importSection t) (lowOf importSection t) w at old s new (rw (none-read formWord formOf (λ f. refl) w at h n))
+
+    -- whatever the form, no name follows
+    pub no-name : span .parse (drop (at + 1) w) ≡ fail → Writing importSection t w at old s new walks.No
+    no-name e = walks-no words (itemOf importSection t) (lowOf importSection t) w at old s new (go (formWord .parse (drop at w)) refl)
+      where
+        go : (m : Parsed Form) → formWord .parse (drop at w) ≡ m → words .parse (drop at w) ≡ fail
+        go fail p = rw p
+        go (got f r) p =
+            let q : getD w at 0 ∷ drop (at + 1) w ≡ formOf f ∷ r = sym (drop-more w at h) ∙ formWord .only (drop at w) f r p .1 in
+            let d : r ≡ drop (at + 1) w = cc q in
+            let z : span .parse r ≡ fail = ap (span .parse) d ∙ e in
+            rw (p, z)
+
+-- ---- reading: two bytes tell a compact form
+
+abbrev pub secondOf : Form → ℕ
+secondOf Single = 0x00
+secondOf Compact1 = 0x7F
+secondOf Compact2 = 0x7E
+
+two-told : (x y : ℕ) (f : Form) → (f ≡ Single → ⊥) → formIn x y ≡ f → (x ≡ 0) × (y ≡ secondOf f)
+two-told x y f n e = go (eqb x 0) refl (eqb y 0x7F) refl (eqb y 0x7E) refl e
+  where
+    go : (a : Bool) → eqb x 0 ≡ a → (c : Bool) → eqb y 0x7F ≡ c → (d : Bool) → eqb y 0x7E ≡ d
+        → cond a (cond c Compact1 (cond d Compact2 Single)) Single ≡ f → (x ≡ 0) × (y ≡ secondOf f)
+    go false p c q d r e = absurd (n (sym e))
+    go true p true q d r e = (eqb-true x 0 p, eqb-true y 0x7F q ∙ ap secondOf e)
+    go true p false q true r e = (eqb-true x 0 p, eqb-true y 0x7E r ∙ ap secondOf e)
+    go true p false q false r e = absurd (n (sym e))
+
+short-single : (s : List ℕ) → length s < 2 → formAt s ≡ Single
+short-single [] h = refl
+short-single (x ∷ []) h = refl
+short-single (x ∷ y ∷ s) h = absurd (omega arith)
+
+module _ (b : List ℕ) (p : ℕ) (f : Form) (n : f ≡ Single → ⊥) (e : f ≡ formAt (drop p b)) where
+  pub compact-long : p + 2 ≤ length b
+  compact-long = ⊎-elim (λ h. h) (λ h. absurd (n (e ∙ short-single (drop p b) (omega (arith, length-drop p b))))) (fits-or (p + 2) (length b))
+
+  pub compact-reads : {A B : Type 0} (S : Section A B) (old : List ℕ) (s : Done) (new : List ℕ) (r : Walk) → Reading S b (p + 2) old s new r
+      → Reading (behind 0x00 (behind (secondOf f) S)) b p old s new r
+  compact-reads S old s new r x =
+      let h = compact-long in
+      let i : p + 2 ≡ p + 1 + 1 = omega arith in
+      let (a, c) = two-told (getD b p 0) (getD b (p + 1) 0) f n (sym (e ∙ ap formAt (drop-two b p h))) in
+      behind-reads 0x00 (behind (secondOf f) S) b p old s new r (drop-more b p (omega arith) ∙ ap (λ (k : ℕ). k ∷ drop (p + 1) b) a)
+      (behind-reads (secondOf f) S b (p + 1) old s new r (drop-more b (p + 1) (omega arith) ∙ ap (λ (k : ℕ). k ∷ drop (p + 1 + 1) b) c)
+      (subst (λ (k : ℕ). Reading S b k old s new r) i x))
+
+-- ---- reading: the module's name, and what stands behind it
+
+module _ (b : List ℕ) (at : ℕ) (old : List ℕ) (s : Done) (new : List ℕ) where
+  pub no-module : textAt (sizedAt at) (nameBytes .parse (drop at b)) ≡ No → Reading importSection b at old s new walks.No
+  no-module e h = walks-no bytes (recordAt importSection at) (λ x. 9) b at old s new (rw (stands-not nameBytes (sizedAt at) b at e))
+
+  module _ (v : Span) (e : textAt (sizedAt at) (nameBytes .parse (drop at b)) ≡ At v) where
+    name-end : (h : at ≤ length b) → let n = stands nameBytes (sizedAt at) b at v h e .text in v .start + v .len ≡ at + length (nameBytes .print n)
+    name-end h =
+        let g = stands nameBytes (sizedAt at) b at v h e in
+        let n = g .text in
+        ap (λ (u : Span). u .start + u .len) (g .is) ∙ omega (arith, length-append (uleb (length n)) n)
+
+    pub form-reads : (f : Form) → f ≡ formAt (drop (v .start + v .len) b) → (cur : List ℕ) (u : Done) (r : Walk) → Adds (formOf f ∷ span .print v) 9 old s cur u
+        → Reading (rest f) b (v .start + v .len) cur u new r → Reading importSection b at old s new r
+    form-reads f fe cur u r a x h =
+        let g = stands nameBytes (sizedAt at) b at v h e in
+        let n = g .text in
+        let p = v .start + v .len in
+        let pe : p ≡ at + length (nameBytes .print n) = name-end h in
+        let named : nameBytes .parse (drop at b) ≡ got n (drop p b) = g .parsed ∙ ap (λ (k : ℕ). got n (drop k b)) (sym pe) in
+        let within : p ≤ length b = omega (arith, g .within) in
+        walked-as (recordAt (rest f) p) (λ y. 9) (recordAt importSection at) (λ y. 9) (λ y. (f, (n, y))) (formOf f ∷ span .print v) 9 b (rest f .bytes .parse (drop p b)) (bytes .parse (drop at b)) old s cur u new r
+        (rw (named, one-at formAt (λ f. rest f .bytes) f (drop p b) (sym fe)) (behind-name n (rest f .bytes .parse (drop p b))))
+        (λ y q i. prints n (g .is) pe y) (λ y. refl) a (x within)
+      where
+        behind-name : (n : List ℕ) (m : Parsed (Rest f (List ℕ)))
+            → map {B = Imports (List ℕ)} (λ (q : List ℕ × ((f : Form) × Rest f (List ℕ))). (q .1 .0, (q .0, q .1 .1))) (bind {B = List ℕ × ((f : Form) × Rest f (List ℕ))} (map {B = (f : Form) × Rest f (List ℕ)} (λ y. (f, y)) m) (λ y t. got (n, y) t))
+            ≡ map {B = Imports (List ℕ)} (λ y. (f, (n, y))) m
+        behind-name n fail = refl
+        behind-name n (got y t) = refl
+
+        prints : (n : List ℕ) → v ≡ sizedAt at n → v .start + v .len ≡ at + length (nameBytes .print n) → (y : Rest f (List ℕ))
+            → (formOf f ∷ span .print v) ++ recordAt (rest f) (v .start + v .len) y ≡ recordAt importSection at (f, (n, y))
+        prints n is pe y =
+            ap (λ (k : ℕ). formOf f ∷ (span .print v ++ recordAt (rest f) k y)) pe
+            ∙ ap (λ (u : Span). formOf f ∷ (span .print u ++ recordAt (rest f) (at + length (nameBytes .print n)) y)) is
