@@ -63,7 +63,15 @@ fn walk_member(m: Member, words: &[u32], at: usize, text: &[u8], out: &mut [u8],
 }
 
 // n members.
-fn walk_members(m: Member, n: usize, words: &[u32], at: usize, text: &[u8], out: &mut [u8], s: Done) -> Walk
+fn walk_members(
+    m: Member,
+    n: usize,
+    words: &[u32],
+    at: usize,
+    text: &[u8],
+    out: &mut [u8],
+    s: Done,
+) -> Walk
     requires { ⌜ at ≤ length (now words) ⌝ }
     ensures { λ r. ⌜ MembersWritten (member m) (now (text .entry)) (now (words .entry)) at n (now (out .entry)) s (now (out .exit)) r ⌝ }
 {

@@ -63,10 +63,10 @@ module _ {A B C D : Type 0} (S : Section A B) (T : Section C D) where
 
     pub both-ok : length (stood q x y r) ≤ textMost → pair (S .words) (T .words) .Ok (bothLocate (length q) p)
     both-ok h = (
-        S .locate-ok q (y ++ r) (p .0) (ok .0) (subst (λ (s : List ℕ). length s ≤ textMost) (sym (first-stood q x y r)) h),
-        subst (λ (n : ℕ). T .words .Ok (T .locate n (p .1))) (length-append q x)
-            (T .locate-ok (q ++ x) r (p .1) (ok .1) (subst (λ (s : List ℕ). length s ≤ textMost) (sym (second-stood q x y r)) h)),
-      )
+      S .locate-ok q (y ++ r) (p .0) (ok .0) (subst (λ (s : List ℕ). length s ≤ textMost) (sym (first-stood q x y r)) h),
+      subst (λ (n : ℕ). T .words .Ok (T .locate n (p .1))) (length-append q x)
+          (T .locate-ok (q ++ x) r (p .1) (ok .1) (subst (λ (s : List ℕ). length s ≤ textMost) (sym (second-stood q x y r)) h)),
+    )
 
     pub both-texts : All (Allowed (stood q x y r)) (bothTexts (bothLocate (length q) p))
     both-texts =
@@ -87,8 +87,8 @@ module _ {A B C D : Type 0} (S : Section A B) (T : Section C D) where
         locate-texts = both-texts;
         resolve-ok =
             λ t p ok h. (
-              let (a, b) = all-each (Allowed t) (S .texts (p .0)) (T .texts (p .1)) h in
-              (S .resolve-ok t (p .0) (ok .0) a, T .resolve-ok t (p .1) (ok .1) b)
+            let (a, b) = all-each (Allowed t) (S .texts (p .0)) (T .texts (p .1)) h in
+            (S .resolve-ok t (p .0) (ok .0) a, T .resolve-ok t (p .1) (ok .1) b)
             );
         same-words = λ t p n. simp (length-append, S .same-words, T .same-words);
       }
@@ -107,10 +107,10 @@ module _ {A B : Type 0} (k : ℕ) (S : Section A B) where
         located = λ q r x ok. at-second q (k ∷ []) (S .bytes .print x) r (λ (s : List ℕ) (n : ℕ). S .resolve s (S .locate n x) ≡ x) (S .located (q ++ (k ∷ [])) r x ok);
         locate-ok =
             λ q r x ok h. subst (λ (n : ℕ). S .words .Ok (S .locate n x)) (length-append q (k ∷ []))
-              (S .locate-ok (q ++ (k ∷ [])) r x ok (subst (λ (s : List ℕ). length s ≤ textMost) (sym (second-stood q (k ∷ []) (S .bytes .print x) r)) h));
+            (S .locate-ok (q ++ (k ∷ [])) r x ok (subst (λ (s : List ℕ). length s ≤ textMost) (sym (second-stood q (k ∷ []) (S .bytes .print x) r)) h));
         locate-texts =
             λ q r x ok.
-              at-second q (k ∷ []) (S .bytes .print x) r (λ (s : List ℕ) (n : ℕ). All (Allowed s) (S .texts (S .locate n x))) (S .locate-texts (q ++ (k ∷ [])) r x ok);
+            at-second q (k ∷ []) (S .bytes .print x) r (λ (s : List ℕ) (n : ℕ). All (Allowed s) (S .texts (S .locate n x))) (S .locate-texts (q ++ (k ∷ [])) r x ok);
         resolve-ok = S .resolve-ok;
         same-words = λ t a n. S .same-words t a (n + 1);
       }

@@ -89,21 +89,21 @@ module _ {A B : Type 0} (S : Section A B) where
         locate = λ n xs. locates (n + countLong xs) xs;
         located =
             λ q r xs ok. (
-              let c = u32 .print (length xs) in
-              at-second q c (written xs) r (λ (s : List ℕ) (n : ℕ). each (S .resolve s) (locates n xs) ≡ xs) (all-located (q ++ c) r xs (ok .1))
+            let c = u32 .print (length xs) in
+            at-second q c (written xs) r (λ (s : List ℕ) (n : ℕ). each (S .resolve s) (locates n xs) ≡ xs) (all-located (q ++ c) r xs (ok .1))
             );
         locate-ok =
             λ q r xs ok h. (
-              let c = u32 .print (length xs) in (
-                rw (length-locates (length q + length c) xs) (ok .0),
-                subst (λ (n : ℕ). All (S .words .Ok) (locates n xs)) (length-append q c)
-                    (all-ok (q ++ c) r xs (ok .1) (subst (λ (s : List ℕ). length s ≤ textMost) (sym (second-stood q c (written xs) r)) h)),
-              )
+            let c = u32 .print (length xs) in (
+              rw (length-locates (length q + length c) xs) (ok .0),
+              subst (λ (n : ℕ). All (S .words .Ok) (locates n xs)) (length-append q c)
+                  (all-ok (q ++ c) r xs (ok .1) (subst (λ (s : List ℕ). length s ≤ textMost) (sym (second-stood q c (written xs) r)) h)),
+            )
             );
         locate-texts =
             λ q r xs ok. (
-              let c = u32 .print (length xs) in
-              at-second q c (written xs) r (λ (s : List ℕ) (n : ℕ). All (Allowed s) (textsOf (locates n xs))) (all-texts (q ++ c) r xs (ok .1))
+            let c = u32 .print (length xs) in
+            at-second q c (written xs) r (λ (s : List ℕ) (n : ℕ). All (Allowed s) (textsOf (locates n xs))) (all-texts (q ++ c) r xs (ok .1))
             );
         resolve-ok = λ t xs ok h. (rw (length-each (S .resolve t) xs) (ok .0), all-resolve t xs (ok .1) h);
         same-words = λ t xs n. ap suc (all-words t xs (n + countLong (each (S .resolve t) xs)));
