@@ -1,7 +1,7 @@
 // The oracle: wasm-encoder itself answers, as document 01 says.
 //   oracle lines        hex lines on standard input, answer lines on standard output
 //   oracle entries      calls that hex lines cannot reach, one a line (src/entries.rs)
-//   oracle make lines SEED, oracle make list SEED, oracle make entries SEED, oracle make modules SEED
+//   oracle make lines SEED, oracle make list SEED, oracle make entries SEED, oracle make reads SEED, oracle make short BYTE, oracle make modules SEED
 //                       a generated input file: hex lines, many of them, or calls; or modules of standard features, in hexadecimal (src/make.rs)
 mod entries;
 mod item;
@@ -26,7 +26,7 @@ fn main() {
         ["entries"] => String::from_utf8(input()).expect("text").lines().flat_map(|l| (entries::answer(l) + "\n").into_bytes()).collect(),
         ["make", kind, seed] => make::file(kind, seed.parse().expect("SEED is a number")),
         _ => {
-            eprintln!("usage: oracle lines | entries | make lines|list|entries|modules SEED");
+            eprintln!("usage: oracle lines | entries | make lines|list|entries|reads|short|modules SEED");
             std::process::exit(2);
         }
     };

@@ -16,8 +16,10 @@ pub fn file(kind: &str, seed: u64) -> Vec<u8> {
         ("lines", _) => m.lines(),
         ("list", _) => m.list_of_lines(),
         ("entries", _) => m.entries(seed),
+        ("reads", _) => m.reads(),
+        ("short", _) => short_reads(seed as u8),
         ("modules", _) => m.modules(),
-        _ => panic!("make lines, list, entries or modules"),
+        _ => panic!("make lines, list, entries, reads, short or modules"),
     }
 }
 
@@ -62,6 +64,24 @@ fn short_lines() -> Vec<u8> {
     }
     out.extend(b"\n\n");
     out
+}
+
+// All short reads that begin with a byte: alone, with any one more, and with any two more of those that mean something in an item.
+fn short_reads(first: u8) -> Vec<u8> {
+    let some: Vec<u8> = (0..=0x0B).chain([0x10, 0x20, 0x23, 0x3F]).chain(0x40..=0x44).chain(0x4C..=0x50).chain(0x5D..=0x7F).chain([0x80, 0xC0, 0xD0, 0xD2, 0xFF]).collect();
+    let mut out = String::new();
+    for id in [1, 2, 4, 9, 11] {
+        out += &format!("read {id} 4096 {first:02X}\n");
+        for second in 0..=255u8 {
+            out += &format!("read {id} 4096 {first:02X}{second:02X}\n");
+        }
+        for second in &some {
+            for third in &some {
+                out += &format!("read {id} 4096 {first:02X}{second:02X}{third:02X}\n");
+            }
+        }
+    }
+    out.into_bytes()
 }
 
 const EDGES: [u32; 16] =
@@ -608,6 +628,24 @@ impl Make {
         }
         *out += &format!("finish {} {full} 0B00000100{} 0B 0 {full}\n", 65541, "2A".repeat(65536));
         *out += &format!("finish {} {full} 0B01000100{} 0B 0 {full}\n", 65542, "2A".repeat(65537));
+    }
+
+    // Items, each cut off at every place, and damaged ones.
+    fn reads(&mut self) -> Vec<u8> {
+        let mut out = String::new();
+        for _ in 0..40 {
+            self.record();
+            let Some(record) = record::parse(&self.words) else { unreachable!() };
+            let item = encode(&record, &self.text);
+            for end in 0..=item.len().min(80) {
+                out += &format!("read {} 4096 {}\n", record.section(), shown(&item[..end]));
+            }
+            for _ in 0..8 {
+                out += &self.read_call();
+                out += "\n";
+            }
+        }
+        out.into_bytes()
     }
 
     // A good item with something behind it, or a damaged one.

@@ -1,5 +1,5 @@
 -- Imports at a place: the form by the first word, and by the two bytes behind the module's name. Assumes nothing.
-use mathlib.Core.Path.{_≡_, refl, sym, ap, subst, _∙_}
+use mathlib.Core.Path.{_≡_, refl, sym, ap, _∙_}
 use mathlib.Core.Logic.{⊎-elim}
 use mathlib.Core.Bool.{Bool, true, false, cond}
 use mathlib.Core.List.{List, [], _∷_, _++_}
@@ -10,11 +10,10 @@ use lib.Dec.{eqb}
 use lib.ListN.{length, getD, drop, length-append, length-drop}
 use borrow.Author.Tests.{ne-eqb, eqb-true}
 use Rattle.format.specs.Parsed.{Parsed, fail, got, bind, map}
-use Rattle.format.specs.Count.{Adds, adds-nil}
+use Rattle.format.specs.Count.{Adds}
 use Rattle.format.specs.Read.{drop-more, drop-end, drop-two, one-read, none-read}
-use Rattle.format.specs.Sequence.{dep-known}
 use Rattle.format.specs.Told.{one-at}
-use Rattle.format.specs.Walk.{walks-no, walks-tail, walked-as}
+use Rattle.format.specs.Walk.{walks-no, walked-as}
 use Rattle.format.specs.Write.{fits-or}
 use Rattle.format.specs.declared.Done.{Done}
 use Rattle.format.specs.declared.Walk.{Walk}
@@ -28,8 +27,9 @@ use Rattle.texts.specs.declared.Span.{Span}
 use Rattle.texts.specs.declared.TextAt.the-variants.{At, No}
 use Rattle.parts.specs.Text.{nameBytes}
 use Rattle.parts.specs.Both.{behind}
-use Rattle.parts.specs.Writing.{Writing, itemOf, lowOf, lowest-behind}
-use Rattle.parts.specs.Reading.{Reading, recordAt, behind-reads}
+use Rattle.parts.specs.Writing.{Writing, itemOf, lowOf}
+use Rattle.parts.specs.Chosen.{chosen-writing}
+use Rattle.parts.specs.Reading.{Reading, recordAt, two-reads}
 use Rattle.imports.specs.Entity.{entityBytes}
 use Rattle.imports.specs.Forms.{MemberOf, member, Rest, rest, form, Imports, formOf, formWord, words}
 use Rattle.imports.specs.Compact.{formIn, formAt, bytes}
@@ -88,9 +88,7 @@ module _ (t w : List ℕ) (at : ℕ) (old : List ℕ) (s : Done) (new : List ℕ
   module _ (h : at < length w) where
     pub form-word : (f : Form) → getD w at 0 ≡ formOf f → (r : Walk) → Writing (form f) t w (at + 1) old s new r → Writing importSection t w at old s new r
     form-word f e r x =
-        walks-tail (form f .words) (itemOf (form f) t) (lowOf (form f) t) words (itemOf importSection t) (lowOf importSection t) (λ v. (f, v)) [] 9 w (at + 1) at old s old s new r
-        (dep-known formWord (λ f. form f .words) f (drop at w) (drop (at + 1) w) (one-read formWord f (formOf f) tt refl w at h e))
-        (λ v. refl) (λ v. lowest-behind t (form f .texts v)) (adds-nil old s) x
+        chosen-writing formWord (λ f. tt) form bytes (λ x. (λ h. h, λ h. h)) (λ x. refl) f t w at (at + 1) old s new r (one-read formWord f (formOf f) tt refl w at h e) x
 
     pub no-form : ((f : Form) → getD w at 0 ≡ formOf f → ⊥) → Writing importSection t w at old s new walks.No
     no-form n = walks-no words (itemOf importSection t) (lowOf importSection t) w at old s new (rw (none-read formWord formOf (λ f. refl) w at h n))
@@ -137,11 +135,8 @@ module _ (b : List ℕ) (p : ℕ) (f : Form) (n : f ≡ Single → ⊥) (e : f �
       → Reading (behind 0x00 (behind (secondOf f) S)) b p old s new r
   compact-reads S old s new r x =
       let h = compact-long in
-      let i : p + 2 ≡ p + 1 + 1 = omega arith in
       let (a, c) = two-told (getD b p 0) (getD b (p + 1) 0) f n (sym (e ∙ ap formAt (drop-two b p h))) in
-      behind-reads 0x00 (behind (secondOf f) S) b p old s new r (drop-more b p (omega arith) ∙ ap (λ (k : ℕ). k ∷ drop (p + 1) b) a)
-      (behind-reads (secondOf f) S b (p + 1) old s new r (drop-more b (p + 1) (omega arith) ∙ ap (λ (k : ℕ). k ∷ drop (p + 1 + 1) b) c)
-      (subst (λ (k : ℕ). Reading S b k old s new r) i x))
+      two-reads 0x00 (secondOf f) S b p old s new r h a c x
 
 -- ---- reading: the module's name, and what stands behind it
 

@@ -6,10 +6,9 @@ use Prim.Native.Nat.{ℕ, _<_, _≤_}
 use native.Mathlib.Omega.{arith}
 use lib.ListN.{length, getD, drop}
 use Rattle.format.specs.Parsed.{fail}
-use Rattle.format.specs.Format.{refuses}
-use Rattle.format.specs.Basic.{find, find-only}
+use Rattle.format.specs.Basic.{find, find-none}
 use Rattle.format.specs.Count.{Adds, adds-nil}
-use Rattle.format.specs.Read.{drop-more, drop-end, one-read}
+use Rattle.format.specs.Read.{drop-end, one-read, none-read}
 use Rattle.format.specs.Sequence.{dep-known}
 use Rattle.format.specs.Walk.{Walked, Walks, walked-as}
 use Rattle.format.specs.declared.Done.{Done}
@@ -39,16 +38,9 @@ module _ (w : List ℕ) (h : 0 < length w) where
       (λ a. omega (arith, lowest-small t (section i .texts a))) (adds-nil old s) x
 
   -- or none's
-  pub word-none : (getD w 0 0 ≡ 1 → ⊥) → (getD w 0 0 ≡ 4 → ⊥) → (getD w 0 0 ≡ 11 → ⊥) → words .parse (drop 0 w) ≡ fail
+  pub word-none : ((i : SectionId) → getD w 0 0 ≡ idOf i → ⊥) → words .parse (drop 0 w) ≡ fail
   unfolding words
-  word-none a b c = refuses words (drop 0 w) .1 (λ x r ok e. go (x .0) (x .1) (cc (sym (drop-more w 0 h) ∙ e)))
-    where
-      go : (i : SectionId) → Body i Span → getD w 0 0 ≡ idOf i → ⊥
-      go Types x e = a e
-      go Imports x e = x
-      go Tables x e = b e
-      go Elements x e = x
-      go Data x e = c e
+  word-none n = rw (none-read idWord idOf (λ i. refl) w 0 h n)
 
 module _ (id : ℕ) (s : List ℕ) where
   -- the id is a section's
@@ -60,17 +52,6 @@ module _ (id : ℕ) (s : List ℕ) where
       (ap (λ (o : Option SectionId). itemsOf o s) (ap (find idOf ids) e ∙ id-full i)) (λ x q p. refl) (λ x. refl) (subst (λ (k : ℕ). Adds (k ∷ []) 9 old u cur t) e a) x
 
   -- or none's
-  pub byte-none : (id ≡ 1 → ⊥) → (id ≡ 4 → ⊥) → (id ≡ 11 → ⊥) → beginsIn id s ≡ fail
+  pub byte-none : ((i : SectionId) → id ≡ idOf i → ⊥) → beginsIn id s ≡ fail
   unfolding beginsIn
-  byte-none a b c = go (find idOf ids id) refl
-    where
-      at : (i : SectionId) → id ≡ idOf i → itemsOf (some i) s ≡ fail
-      at Types e = absurd (a e)
-      at Imports e = refl
-      at Tables e = absurd (b e)
-      at Elements e = refl
-      at Data e = absurd (c e)
-
-      go : (o : Option SectionId) → find idOf ids id ≡ o → itemsOf o s ≡ fail
-      go none e = refl
-      go (some i) e = at i (find-only idOf ids id i e)
+  byte-none n = rw (find-none idOf ids id n)

@@ -3,11 +3,11 @@ use mathlib.Core.Path.{_≡_, refl, sym, ap, subst, _∙_}
 use mathlib.Core.Logic.{_↔_}
 use mathlib.Core.Bool.{Bool, true, false, cond}
 use mathlib.Core.Option.{Option, none, some}
-use mathlib.Core.List.{List, [], _++_}
+use mathlib.Core.List.{List, [], _++_, append-nil}
 use Prim.Native.Nat.{ℕ, _≤_}
 use lib.Dec.{leb}
 use lib.ListN.{length}
-use Rattle.format.specs.Parsed.{Parsed, fail, got, fail-got, bind, map, map-inv}
+use Rattle.format.specs.Parsed.{Parsed, fail, got, got-rest, fail-got, bind, map, map-inv}
 use Rattle.format.specs.Basic.{find, find-only}
 use Rattle.frames.specs.Frames.{idOf}
 use Rattle.frames.specs.declared.SectionId.{SectionId}
@@ -15,12 +15,13 @@ use Rattle.texts.specs.Judge.{wordsMost, textMost, recordIn, itemIn, why}
 use Rattle.texts.specs.Section.{Section, tagged, readWords, readable, Among}
 use Rattle.texts.specs.Reading as reading
 use Rattle.texts.specs.declared.Span.{Span}
-use Rattle.items.specs.Record.{Body, section, Record, ids, id-full, words, textsOf, itemOf, records, resolved, recordOf, itemsOf, isShort, beginsIn, readIn}
+use Rattle.items.specs.Exception.{filledBody, filled, exception, recordFrom, read-filled, added-filled}
+use Rattle.items.specs.Record.{Body, ItemOf, section, Record, Item, ids, id-full, words, textsOf, itemOf, records, resolved, recordOf, itemsOf, isShort, beginsIn, readIn}
 
 -- ---- one section among all
 
 module _ (i : SectionId) where
-  abbrev whole : Section (Body i Span) (Body i (List ℕ))
+  abbrev whole : Section (Body i Span) (ItemOf i)
   whole = tagged (idOf i) (section i)
 
   unfoldable whole-among : Among whole records
@@ -32,13 +33,13 @@ module _ (i : SectionId) where
   unfolding recordOf
   read-one s = go (section i .bytes .parse s)
     where
-      short : (x : Body i (List ℕ)) (r : List ℕ) (c : Bool) → cond c (got (i, x) r) fail ≡ map {B = Record (List ℕ)} (λ x. (i, x)) (cond c (got x r) fail)
+      short : (x : ItemOf i) (r : List ℕ) (c : Bool) → cond c (got (i, x) r) fail ≡ map {B = Item} (λ x. (i, x)) (cond c (got x r) fail)
       short x r true = refl
       short x r false = refl
 
-      go : (m : Parsed (Body i (List ℕ)))
-          → bind (map {B = Record (List ℕ)} (λ x. (i, x)) m) isShort
-          ≡ map {B = Record (List ℕ)} (λ x. (i, x)) (bind m (λ x r. cond (leb (length (readWords whole x)) wordsMost) (got x r) fail))
+      go : (m : Parsed (ItemOf i))
+          → bind (map {B = Item} (λ x. (i, x)) m) isShort
+          ≡ map {B = Item} (λ x. (i, x)) (bind m (λ x r. cond (leb (length (readWords whole x)) wordsMost) (got x r) fail))
       go fail = refl
       go (got x r) = short x r (leb (length (recordOf (i, x))) wordsMost)
 
@@ -51,41 +52,44 @@ unfolding whole-among beginsIn
 add-reads w t a r p y =
     ap (λ (o : Option SectionId). bind (itemsOf o (itemIn records w t ++ r)) isShort) (id-full (a .0))
     ∙ read-one (a .0) (itemIn records w t ++ r)
-    ∙ ap (map {B = Record (List ℕ)} (λ x. (a .0, x))) (reading.add-reads (whole (a .0)) records (whole-among (a .0)) w t (a .1) p y r)
+    ∙ ap (map {B = Item} (λ x. (a .0, x))) (reading.add-reads (whole (a .0)) records (whole-among (a .0)) w t (a .1) p y r)
 
--- adding the record that is read, with the bytes themselves as its text, writes the bytes that were taken; it is the same record but for where spans lie
-pub record ReadAdds (id : ℕ) (s : List ℕ) (x : Record (List ℕ)) (r : List ℕ) : Type 0 where
+-- adding the record that is read, with the bytes themselves as its text, writes the bytes that were taken
+pub record ReadAdds (id : ℕ) (s : List ℕ) (x : Item) (r : List ℕ) : Type 0 where
   pub value : Record Span
   pub is : recordIn records (recordOf x) ≡ some value
   pub section : idOf (value .0) ≡ id
   pub same : resolved s value ≡ x
+  pub holds : filled s value ≡ (x .0, recordFrom (x .0) (x .1))
   pub accepted : why records (recordOf x) s ≡ 0
   pub item : itemIn records (recordOf x) s ++ r ≡ s
 
-one-adds : (i : SectionId) (s : List ℕ) (x : Body i (List ℕ)) (r : List ℕ) → readable (whole i) .parse s ≡ got x r → length s ≤ textMost → ReadAdds (idOf i) s (i, x) r
+one-adds : (i : SectionId) (s : List ℕ) (x : ItemOf i) (r : List ℕ) → readable (whole i) .parse s ≡ got x r → length s ≤ textMost → ReadAdds (idOf i) s (i, x) r
 unfolding whole-among recordOf
 one-adds i s x r e h =
     let g = reading.read-adds (whole i) records (whole-among i) s x r e h in
     let o = readable (whole i) .only s x r e in
     let back : section i .resolve s (section i .locate 0 x) ≡ x = ap (λ (l : List ℕ). section i .resolve l (section i .locate 0 x)) (o .1) ∙ section i .located [] r x (o .0 .0) in
+    let held : filledBody s i (section i .locate 0 x) ≡ recordFrom i x = ap (λ (l : List ℕ). filledBody l i (section i .locate 0 x)) (o .1) ∙ read-filled i [] r x (o .0 .0) in
     record {
       value = (i, section i .locate 0 x);
       is = g .is;
       section = refl;
       same = λ k. (i, back k);
+      holds = λ k. (i, held k);
       accepted = g .accepted;
       item = ap (λ (l : List ℕ). l ++ r) (g .item) ∙ sym (o .1);
     }
 
-pub read-adds : (id : ℕ) (s : List ℕ) (x : Record (List ℕ)) (r : List ℕ) → readIn id s ≡ got x r → length s ≤ textMost → ReadAdds id s x r
+pub read-adds : (id : ℕ) (s : List ℕ) (x : Item) (r : List ℕ) → readIn id s ≡ got x r → length s ≤ textMost → ReadAdds id s x r
 unfolding beginsIn
 read-adds id s x r e h = go (find idOf ids id) refl e
   where
     go : (o : Option SectionId) → find idOf ids id ≡ o → bind (itemsOf o s) isShort ≡ got x r → ReadAdds id s x r
     go none p q = absurd (fail-got _ x r refl q)
     go (some i) p q =
-        let j = map-inv {B = Record (List ℕ)} (λ y. (i, y)) (readable (whole i) .parse s) x r (sym (read-one i s) ∙ q) in
-        subst (λ (k : ℕ). ReadAdds k s x r) (sym (find-only idOf ids id i p)) (subst (λ (y : Record (List ℕ)). ReadAdds (idOf i) s y r) (j .2) (one-adds i s (j .0) r (j .1) h))
+        let j = map-inv {B = Item} (λ y. (i, y)) (readable (whole i) .parse s) x r (sym (read-one i s) ∙ q) in
+        subst (λ (k : ℕ). ReadAdds k s x r) (sym (find-only idOf ids id i p)) (subst (λ (y : Item). ReadAdds (idOf i) s y r) (j .2) (one-adds i s (j .0) r (j .1) h))
 
 -- nothing is read exactly where no item of the section begins
 pub none-begins : (id : ℕ) (s : List ℕ) → length s ≤ textMost
@@ -97,7 +101,30 @@ none-begins id s h = (there, go (readIn id s) refl)
         → s ≡ itemIn records w t ++ r → ⊥
     there e w t r a p i y q = fail-got (readIn id s) (resolved t a) r e (rw (← i, q) (add-reads w t a r p y))
 
-    go : (m : Parsed (Record (List ℕ))) → readIn id s ≡ m
+    go : (m : Parsed Item) → readIn id s ≡ m
         → ((w t r : List ℕ) (a : Record Span) → recordIn records w ≡ some a → idOf (a .0) ≡ id → why records w t ≡ 0 → s ≡ itemIn records w t ++ r → ⊥) → m ≡ fail
     go fail e n = refl
     go (got x r) e n = let g = read-adds id s x r e h in absurd (n (recordOf x) s r (g .value) (g .is) (g .section) (g .accepted) (sym (g .item)))
+
+-- what is read of an added record's item holds there what the record held in its text, but for the one exception
+pub record Back (t : List ℕ) (a : Record Span) (s : List ℕ) (words : List ℕ) : Type 0 where
+  pub value : Record Span
+  pub is : recordIn records words ≡ some value
+  pub same : filled s value ≡ exception (filled t a)
+
+pub added-back : (w t : List ℕ) (a : Record Span) (r : List ℕ) → recordIn records w ≡ some a → why records w t ≡ 0 → length (itemIn records w t ++ r) ≤ textMost
+    → Back t a (itemIn records w t ++ r) (recordOf (resolved t a))
+added-back w t a r p y h =
+    let s = itemIn records w t ++ r in
+    let g = read-adds (idOf (a .0)) s (resolved t a) r (add-reads w t a r p y) h in
+    let e = added-filled (a .0) t (a .1) in
+    record { value = g .value; is = g .is; same = g .holds ∙ (λ k. (a .0, e k)) }
+
+-- no item of a section is the beginning of another one
+pub none-longer : (w t w′ t′ : List ℕ) (a b : Record Span) (r : List ℕ) → recordIn records w ≡ some a → why records w t ≡ 0 → recordIn records w′ ≡ some b
+    → why records w′ t′ ≡ 0 → a .0 ≡ b .0 → itemIn records w′ t′ ≡ itemIn records w t ++ r → r ≡ []
+none-longer w t w′ t′ a b r p y p′ y′ same e =
+    let f : readIn (idOf (a .0)) (itemIn records w t ++ r) ≡ got (resolved t a) r = add-reads w t a r p y in
+    let g : readIn (idOf (b .0)) (itemIn records w′ t′ ++ []) ≡ got (resolved t′ b) [] = add-reads w′ t′ b [] p′ y′ in
+    let i : itemIn records w t ++ r ≡ itemIn records w′ t′ ++ [] = sym e ∙ sym (append-nil (itemIn records w′ t′)) in
+    got-rest (sym f ∙ ap (λ (k : SectionId). readIn (idOf k) (itemIn records w t ++ r)) same ∙ ap (readIn (idOf (b .0))) i ∙ g)

@@ -1,5 +1,5 @@
 -- Records and items of all sections (document 01, Records; Items to bytes): a record's first word is its section's id. A further section is one more case of
--- `Body` and of `section`; imports and elements have none yet. Assumes nothing.
+-- `Body`, of `ItemOf` and of `section`. Assumes nothing.
 use mathlib.Core.Path.{_≡_, refl}
 use mathlib.Core.Bool.{cond}
 use mathlib.Core.Option.{Option, none, some}
@@ -10,41 +10,55 @@ use lib.Dec.{leb, lit<}
 use lib.ListN.{length}
 use Rattle.format.specs.Parsed.{Parsed, fail, got, bind, map}
 use Rattle.format.specs.Format.{Format}
-use Rattle.format.specs.Basic.{find, table, never}
+use Rattle.format.specs.Basic.{find, table}
 use Rattle.format.specs.Combine.{dep}
-use Rattle.format.specs.Agree.{agree-same}
 use Rattle.frames.specs.Frames.{idOf}
 use Rattle.frames.specs.declared.SectionId.{SectionId}
 use Rattle.frames.specs.declared.SectionId.the-variants.{Types, Imports, Tables, Elements, Data}
 use Rattle.texts.specs.Text.{Kind, lowestOf}
 use Rattle.texts.specs.Judge.{Records, wordsMost}
-use Rattle.texts.specs.Section.{Section, textless}
+use Rattle.texts.specs.Section.{Section}
 use Rattle.texts.specs.declared.Span.{Span}
 use Rattle.groups.specs.RecGroup.{RecGroup}
 use Rattle.groups.specs.Section.{typeSection}
-use Rattle.tables.specs.Table.{Table}
-use Rattle.tables.specs.Section.{tableSection}
+use Rattle.imports.specs.Forms as imports
+use Rattle.imports.specs.Section.{importSection}
+use Rattle.tables.specs.Table.{Table, tableSection}
+use Rattle.elements.specs.Segment as elements
+use Rattle.elements.specs.Item as flagged
+use Rattle.elements.specs.Section.{elementSection}
 use Rattle.data.specs.Segment.{Segment}
 use Rattle.data.specs.Reading.{dataSection}
 
 -- what a section's records are, over their texts
 abbrev pub Body : SectionId → Type 0 → Type 0
 Body Types S = RecGroup
-Body Imports S = ⊥
+Body Imports S = imports.Imports S
 Body Tables S = Table S
-Body Elements S = ⊥
+Body Elements S = elements.Segment S
 Body Data S = Segment S
 
+-- and its items: records over bytes, but for elements
+abbrev pub ItemOf : SectionId → Type 0
+ItemOf Types = RecGroup
+ItemOf Imports = imports.Imports (List ℕ)
+ItemOf Tables = Table (List ℕ)
+ItemOf Elements = flagged.Item (List ℕ)
+ItemOf Data = Segment (List ℕ)
+
 -- their words behind the id, their items, and the way from the ones to the others
-abbrev pub section : (i : SectionId) → Section (Body i Span) (Body i (List ℕ))
+abbrev pub section : (i : SectionId) → Section (Body i Span) (ItemOf i)
 section Types = typeSection
-section Imports = textless never never (agree-same never)
+section Imports = importSection
 section Tables = tableSection
-section Elements = textless never never (agree-same never)
+section Elements = elementSection
 section Data = dataSection
 
 abbrev pub Record : Type 0 → Type 0
 Record S = (i : SectionId) × Body i S
+
+abbrev pub Item : Type 0
+Item = (i : SectionId) × ItemOf i
 
 -- ---- the first word
 
@@ -70,7 +84,7 @@ unfoldable pub textsOf : Record Span → List (Kind × Span)
 textsOf x = section (x .0) .texts (x .1)
 
 -- the item of a record with the text t
-abbrev pub resolved : List ℕ → Record Span → Record (List ℕ)
+abbrev pub resolved : List ℕ → Record Span → Item
 resolved t x = (x .0, section (x .0) .resolve t (x .1))
 
 unfoldable pub itemOf : List ℕ → Record Span → List ℕ
@@ -85,24 +99,24 @@ records = record { words = words; texts = textsOf; item = itemOf }
 -- ---- reading
 
 -- the record's words that reading writes: its spans point into the bytes
-unfoldable pub recordOf : Record (List ℕ) → List ℕ
+unfoldable pub recordOf : Item → List ℕ
 recordOf x = idOf (x .0) ∷ section (x .0) .words .print (section (x .0) .locate 0 (x .1))
 
-pub record-some : (x : Record (List ℕ)) → 0 < length (recordOf x)
+pub record-some : (x : Item) → 0 < length (recordOf x)
 unfolding recordOf
 record-some x = omega arith
 
 -- what stands at the front of a section's bytes; other ids have no items
-abbrev pub itemsOf : Option SectionId → List ℕ → Parsed (Record (List ℕ))
+abbrev pub itemsOf : Option SectionId → List ℕ → Parsed Item
 itemsOf none s = fail
 itemsOf (some i) s = map (λ x. (i, x)) (section i .bytes .parse s)
 
-unfoldable pub beginsIn : ℕ → List ℕ → Parsed (Record (List ℕ))
+unfoldable pub beginsIn : ℕ → List ℕ → Parsed Item
 beginsIn id s = itemsOf (find idOf ids id) s
 
 -- it is read where its record has at most 4,096 words: no record has more
-abbrev pub isShort : Record (List ℕ) → List ℕ → Parsed (Record (List ℕ))
+abbrev pub isShort : Item → List ℕ → Parsed Item
 isShort x r = cond (leb (length (recordOf x)) wordsMost) (got x r) fail
 
-abbrev pub readIn : ℕ → List ℕ → Parsed (Record (List ℕ))
+abbrev pub readIn : ℕ → List ℕ → Parsed Item
 readIn id s = bind (beginsIn id s) isShort

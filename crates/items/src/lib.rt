@@ -16,17 +16,14 @@ pub fn walk_words(words: &[u32], text: &[u8], out: &mut [u8], s: Done) -> Walk
     if words.len() == 0 {
         return Walk::No;
     }
-    let id = words[0];
-    if id == 1 {
-        return groups::walk_words(words, 1, out, s);
+    match words[0] {
+        1 => groups::walk_words(words, 1, out, s),
+        2 => imports::walk_words(words, 1, text, out, s),
+        4 => tables::walk_words(words, 1, text, out, s),
+        9 => elements::walk_words(words, 1, text, out, s),
+        11 => data::walk_words(words, 1, text, out, s),
+        _ => Walk::No,
     }
-    if id == 4 {
-        return tables::walk_words(words, 1, text, out, s);
-    }
-    if id == 11 {
-        return data::walk_words(words, 1, text, out, s);
-    }
-    Walk::No
 }
 
 // Reads an item and appends its record's words.
@@ -35,16 +32,14 @@ pub fn walk_bytes(id: u8, bytes: &[u8], out: &mut [u32], s: Done) -> Walk
     ensures { λ r. ⌜ Walked recordOf (λ x. 9) (now (bytes .entry)) (beginsIn id (now (bytes .entry))) (now (out .entry)) s (now (out .exit)) r ⌝ }
 {
     let t = append_word(id as u32, out, s);
-    if id == 1 {
-        return groups::walk_bytes(bytes, 0, out, t);
+    match id {
+        1 => groups::walk_bytes(bytes, 0, out, t),
+        2 => imports::walk_bytes(bytes, 0, out, t),
+        4 => tables::walk_bytes(bytes, 0, out, t),
+        9 => elements::walk_bytes(bytes, 0, out, t),
+        11 => data::walk_bytes(bytes, 0, out, t),
+        _ => Walk::No,
     }
-    if id == 4 {
-        return tables::walk_bytes(bytes, 0, out, t);
-    }
-    if id == 11 {
-        return data::walk_bytes(bytes, 0, out, t);
-    }
-    Walk::No
 }
 
 // What a record and its text draw of 2 to 6; or none of them, and the item's length.

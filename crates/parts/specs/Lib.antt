@@ -4,3 +4,4 @@ pub mod Both
 pub mod Listed
 pub mod Writing
 pub mod Reading
+pub mod Chosen

@@ -4,13 +4,13 @@ use mathlib.Core.Path.{_≡_, refl, sym, ap, subst, _∙_}
 use mathlib.Core.List.{List, [], _∷_, _++_}
 use Prim.Native.Nat.{ℕ, _+_, _≤_, _<_}
 use native.Mathlib.Omega.{arith}
-use lib.ListN.{length, drop, length-drop}
+use lib.ListN.{length, getD, drop, length-drop}
 use borrow.Author.Tests.{eq-eqb}
 use Rattle.format.specs.Parsed.{Parsed, fail, got, got-rest, map}
 use Rattle.format.specs.Format.{Format}
 use Rattle.format.specs.Lists.{times, times-short, times-only, prints}
 use Rattle.format.specs.Count.{Adds, adds-seq, adds-eq}
-use Rattle.format.specs.Read.{placeOf, place-at, read-on, same-place}
+use Rattle.format.specs.Read.{drop-more, placeOf, place-at, read-on, same-place}
 use Rattle.format.specs.Loop.{Going, going-stop, going-done, printsAt, leastOf}
 use Rattle.format.specs.Sequence.{dep-known}
 use Rattle.format.specs.Walk.{Walked, Walks, Gone, walked-as, walks-no, no-walks, got-walks}
@@ -84,6 +84,15 @@ behind-reads {A} {B} k S b at old s new r e x h =
   where
     p : behind k S .bytes .parse (drop at b) ≡ S .bytes .parse (drop (at + 1) b)
     p = rw (e, eq-eqb k k refl)
+
+-- behind two bytes
+pub two-reads : {A B : Type 0} (j k : ℕ) (S : Section A B) (b : List ℕ) (at : ℕ) (old : List ℕ) (s : Done) (new : List ℕ) (r : Walk) → at + 2 ≤ length b → getD b at 0 ≡ j
+    → getD b (at + 1) 0 ≡ k → Reading S b (at + 2) old s new r → Reading (behind j (behind k S)) b at old s new r
+two-reads j k S b at old s new r h e f x =
+    let i : at + 2 ≡ at + 1 + 1 = omega arith in
+    behind-reads j (behind k S) b at old s new r (drop-more b at (omega arith) ∙ ap (λ (n : ℕ). n ∷ drop (at + 1) b) e)
+    (behind-reads k S b (at + 1) old s new r (drop-more b (at + 1) (omega arith) ∙ ap (λ (n : ℕ). n ∷ drop (at + 1 + 1) b) f)
+    (subst (λ (n : ℕ). Reading S b n old s new r) i x))
 
 -- ---- lists
 

@@ -10,7 +10,7 @@ use Rattle.types.specs.declared.ValType.the-variants.{I32}
 use Rattle.tables.specs.TableType.{tableWords, tableBytes, memoryWords, memoryBytes}
 use Rattle.tables.specs.GlobalType.{globalWords, globalBytes}
 use Rattle.tables.specs.TagType.{exceptionOf, tagWords, tagBytes}
-use Rattle.tables.specs.Table.{tableWithInit, words, bytes}
+use Rattle.tables.specs.Table.{tableSection}
 use Rattle.limits.specs.declared.Maximum.the-variants.{None, Some}
 use Rattle.tables.specs.declared.TableType.{TableType}
 use Rattle.tables.specs.declared.MemoryType.{MemoryType}
@@ -31,7 +31,7 @@ abbrev counter : GlobalType
 counter = record { «val_type» = I32; mutable = true }
 
 pub records : (tableWords .print functions ≡ 16 ∷ 0 ∷ 0 ∷ 128 ∷ 0 ∷ 0 ∷ 0 ∷ [])
-    × (words .print (tableWithInit functions (record { start = 4; len = 3 })) ≡ 1 ∷ 16 ∷ 0 ∷ 0 ∷ 128 ∷ 0 ∷ 0 ∷ 0 ∷ 4 ∷ 3 ∷ [])
+    × (tableSection .words .print (true, (functions, record { start = 4; len = 3 })) ≡ 1 ∷ 16 ∷ 0 ∷ 0 ∷ 128 ∷ 0 ∷ 0 ∷ 0 ∷ 4 ∷ 3 ∷ [])
     × (memoryWords .print wide ≡ 7 ∷ 1 ∷ 0 ∷ 0 ∷ 1 ∷ [])
     × (memoryWords .print growing ≡ 2 ∷ 3 ∷ 0 ∷ 0 ∷ 0 ∷ [])
     × (globalWords .print counter ≡ 0 ∷ 0 ∷ 0 ∷ 1 ∷ [])
@@ -39,7 +39,7 @@ pub records : (tableWords .print functions ≡ 16 ∷ 0 ∷ 0 ∷ 128 ∷ 0 ∷ 
 records = (refl, refl, refl, refl, refl, refl)
 
 pub items : (tableBytes .print functions ≡ 0x70 ∷ 0x00 ∷ 0x80 ∷ 0x01 ∷ [])
-    × (bytes .print (tableWithInit functions (0xD0 ∷ 0x70 ∷ 0x0B ∷ [])) ≡ 0x40 ∷ 0x00 ∷ 0x70 ∷ 0x00 ∷ 0x80 ∷ 0x01 ∷ 0xD0 ∷ 0x70 ∷ 0x0B ∷ [])
+    × (tableSection .bytes .print (true, (functions, 0xD0 ∷ 0x70 ∷ 0x0B ∷ [])) ≡ 0x40 ∷ 0x00 ∷ 0x70 ∷ 0x00 ∷ 0x80 ∷ 0x01 ∷ 0xD0 ∷ 0x70 ∷ 0x0B ∷ [])
     × (memoryBytes .print wide ≡ 0x07 ∷ 0x01 ∷ 0x80 ∷ 0x80 ∷ 0x80 ∷ 0x80 ∷ 0x10 ∷ [])
     × (memoryBytes .print growing ≡ 0x02 ∷ 0x03 ∷ [])
     × (globalBytes .print counter ≡ 0x7F ∷ 0x01 ∷ [])

@@ -3,6 +3,4 @@ pub mod TableType
 pub mod GlobalType
 pub mod TagType
 pub mod Table
-pub mod Located
-pub mod Section
 pub mod Examples

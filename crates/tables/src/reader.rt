@@ -4,23 +4,22 @@ use format::Walk;
 use format::append_word;
 use limits::read_limits;
 use numbers::ReadU32;
+use parts::read_expr;
 use refs::read_ref;
 use texts::Span;
-use texts::TextAt;
 use texts::append_span;
-use texts::find_expr;
 use vals::read_mutable;
 use vals::read_val;
 ghost use Prim.Native.Nat.{_≤_};
 ghost use lib.ListN.{length};
-ghost use Rattle.format.specs.Combine.{pair};
 ghost use Rattle.format.specs.Walk.{Walks};
-ghost use Rattle.exprs.specs.Laws.{expr};
+ghost use Rattle.parts.specs.Text.{expression};
+ghost use Rattle.parts.specs.Both.{both};
+ghost use Rattle.parts.specs.Reading.{Reading};
 ghost use Rattle.tables.specs.TableType.{tableWords, tableBytes, memoryWords, memoryBytes};
 ghost use Rattle.tables.specs.GlobalType.{globalWords, globalBytes};
 ghost use Rattle.tables.specs.TagType.{tagWords, tagBytes};
-ghost use Rattle.tables.specs.Table.{bareWords, bytes as bytesOf};
-ghost use Rattle.tables.specs.Located.{recordAt, initAt};
+ghost use Rattle.tables.specs.Table.{bareWords, tableType, tableSection};
 
 pub fn read_memory_type(b: &[u8], at: usize, out: &mut [u32], s: Done) -> Walk
     ensures { λ r. ⌜ Walks memoryBytes (memoryWords .print) (λ x. 9) (now (b .entry)) at (now (out .entry)) s (now (out .exit)) r ⌝ }
@@ -76,21 +75,18 @@ fn read_bare(b: &[u8], at: usize, out: &mut [u32], s: Done) -> Walk
 // A table type, and the expression of its initial value.
 fn read_init(b: &[u8], at: usize, out: &mut [u32], s: Done) -> Walk
     requires { ⌜ length (now b) ≤ 65536 ⌝ }
-    ensures { λ r. ⌜ Walks (pair tableBytes expr) (initAt at) (λ x. 9) (now (b .entry)) at (now (out .entry)) s (now (out .exit)) r ⌝ }
+    ensures { λ r. ⌜ Reading (both tableType expression) (now (b .entry)) at (now (out .entry)) s (now (out .exit)) r ⌝ }
 {
     let Walk::Got(p, t) = read_table_type(b, at, out, s) else {
         return Walk::No;
     };
-    let TextAt::At(v) = find_expr(b, p) else {
-        return Walk::No;
-    };
-    Walk::Got(p + v.len as usize, append_span(v, out, t))
+    read_expr(b, p, out, t)
 }
 
 // Reads the item at a place and appends the words behind the 4.
 pub fn walk_bytes(b: &[u8], at: usize, out: &mut [u32], s: Done) -> Walk
     requires { ⌜ length (now b) ≤ 65536 ⌝ }
-    ensures { λ r. ⌜ Walks bytesOf (recordAt at) (λ x. 9) (now (b .entry)) at (now (out .entry)) s (now (out .exit)) r ⌝ }
+    ensures { λ r. ⌜ Reading tableSection (now (b .entry)) at (now (out .entry)) s (now (out .exit)) r ⌝ }
 {
     if b.len() <= at {
         return Walk::No;
@@ -99,10 +95,10 @@ pub fn walk_bytes(b: &[u8], at: usize, out: &mut [u32], s: Done) -> Walk
         let t = append_word(0, out, s);
         return read_bare(b, at, out, t);
     }
-    if b.len() <= at + 1 {
+    if b.len() - at < 2 {
         return Walk::No;
     }
-    if b[at + 1] != 0 {
+    if b[at + 1] != 0x00 {
         return Walk::No;
     }
     let t = append_word(1, out, s);

@@ -5,20 +5,17 @@ use format::append_byte;
 use limits::walk_limits;
 use limits::walk_unused;
 use numbers::append_u32;
+use parts::walk_expr;
 use refs::walk_ref;
-use texts::Span;
-use texts::append_expr;
 use vals::walk_mutable;
 use vals::walk_val;
-ghost use Rattle.format.specs.Combine.{pair};
+ghost use mathlib.Core.Bool.{true};
 ghost use Rattle.format.specs.Walk.{Walks};
-ghost use Rattle.texts.specs.Text.{constant, sliceOf, refusalOf};
-ghost use Rattle.texts.specs.Words.{span};
-ghost use Rattle.types.specs.Vals.{unused};
+ghost use Rattle.parts.specs.Writing.{Writing};
 ghost use Rattle.tables.specs.TableType.{tableWords, tableBytes, memoryWords, memoryBytes};
 ghost use Rattle.tables.specs.GlobalType.{globalWords, globalBytes};
 ghost use Rattle.tables.specs.TagType.{tagWords, tagBytes};
-ghost use Rattle.tables.specs.Table.{bareWords, words as wordsOf, itemOf, lowOf, initOf, initLow};
+ghost use Rattle.tables.specs.Table.{bareWords, form, tableSection};
 
 pub fn walk_memory_type(words: &[u32], at: usize, out: &mut [u8], s: Done) -> Walk
     ensures { λ r. ⌜ Walks memoryWords (memoryBytes .print) (λ x. 9) (now (words .entry)) at (now (out .entry)) s (now (out .exit)) r ⌝ }
@@ -65,48 +62,28 @@ fn walk_bare(words: &[u32], at: usize, out: &mut [u8], s: Done) -> Walk
     walk_unused(words, p, t)
 }
 
-// The span of an expression.
-fn walk_expr(words: &[u32], at: usize, text: &[u8], out: &mut [u8], s: Done) -> Walk
-    ensures { λ r. ⌜ Walks span (sliceOf (now (text .entry))) (refusalOf (now (text .entry)) constant) (now (words .entry)) at (now (out .entry)) s (now (out .exit)) r ⌝ }
-{
-    if words.len() <= at {
-        return Walk::No;
-    }
-    if words.len() - at < 2 {
-        return Walk::No;
-    }
-    let v = Span {
-        start: words[at],
-        len: words[at + 1],
-    };
-    Walk::Got(at + 2, append_expr(text, v, out, s))
-}
-
-// A table type, and the span of its initial value.
+// 40 00, a table type, and the span of its initial value.
 fn walk_init(words: &[u32], at: usize, text: &[u8], out: &mut [u8], s: Done) -> Walk
-    ensures { λ r. ⌜ Walks (pair tableWords span) (initOf (now (text .entry))) (initLow (now (text .entry))) (now (words .entry)) at (now (out .entry)) s (now (out .exit)) r ⌝ }
+    ensures { λ r. ⌜ Writing (form true) (now (text .entry)) (now (words .entry)) at (now (out .entry)) s (now (out .exit)) r ⌝ }
 {
-    let Walk::Got(p, t) = walk_table_type(words, at, out, s) else {
+    let t = append_byte(0x40, out, s);
+    let u = append_byte(0x00, out, t);
+    let Walk::Got(p, v) = walk_table_type(words, at, out, u) else {
         return Walk::No;
     };
-    walk_expr(words, p, text, out, t)
+    walk_expr(words, p, text, out, v)
 }
 
 // Reads the words behind the 4 and appends the item.
 pub fn walk_words(words: &[u32], at: usize, text: &[u8], out: &mut [u8], s: Done) -> Walk
-    ensures { λ r. ⌜ Walks wordsOf (itemOf (now (text .entry))) (lowOf (now (text .entry))) (now (words .entry)) at (now (out .entry)) s (now (out .exit)) r ⌝ }
+    ensures { λ r. ⌜ Writing tableSection (now (text .entry)) (now (words .entry)) at (now (out .entry)) s (now (out .exit)) r ⌝ }
 {
     if words.len() <= at {
         return Walk::No;
     }
-    let init = words[at];
-    if init == 0 {
-        return walk_bare(words, at + 1, out, s);
+    match words[at] {
+        0 => walk_bare(words, at + 1, out, s),
+        1 => walk_init(words, at + 1, text, out, s),
+        _ => Walk::No,
     }
-    if init != 1 {
-        return Walk::No;
-    }
-    let t = append_byte(0x40, out, s);
-    let u = append_byte(0x00, out, t);
-    walk_init(words, at + 1, text, out, u)
 }

@@ -14,7 +14,7 @@ use Rattle.format.specs.Read.{placeOf}
 use Rattle.format.specs.Write.{over}
 use Rattle.format.specs.Answers.{answer, NoneHolds, given-exactly, accepted-exactly, settled, settled-accepts, settled-refuses, settled-exactly}
 use Rattle.texts.specs.Judge.{wordsMost}
-use Rattle.items.specs.Record.{Record, beginsIn, readIn, recordOf, record-some}
+use Rattle.items.specs.Record.{Item, beginsIn, readIn, recordOf, record-some}
 use Rattle.thriftbell.specs.declared.Taken.{Taken}
 use Rattle.thriftbell.specs.declared.Taken.the-variants.{Took, Refused}
 
@@ -39,7 +39,7 @@ abbrev pub frontOf : List ℕ → List ℕ
 frontOf bytes = take 65536 bytes
 
 -- the record's words, and how many bytes it took; none where no item begins the bytes
-abbrev pub readOf : List ℕ → Parsed (Record (List ℕ)) → Option (List ℕ × ℕ)
+abbrev pub readOf : List ℕ → Parsed Item → Option (List ℕ × ℕ)
 readOf b fail = none
 readOf b (got x r) = some (recordOf x, placeOf b r)
 
@@ -110,7 +110,7 @@ module _ (id : ℕ) (bytes out : List ℕ) where
   unfolding wordsIn
   no-item e = ap (readOf (frontOf bytes)) e
 
-  pub item-read : (x : Record (List ℕ)) (r : List ℕ) → readIn id (frontOf bytes) ≡ got x r → wordsIn ≡ some (recordOf x, placeOf (frontOf bytes) r)
+  pub item-read : (x : Item) (r : List ℕ) → readIn id (frontOf bytes) ≡ got x r → wordsIn ≡ some (recordOf x, placeOf (frontOf bytes) r)
   unfolding wordsIn
   item-read x r e = ap (readOf (frontOf bytes)) e
 
@@ -118,7 +118,7 @@ module _ (id : ℕ) (bytes out : List ℕ) where
   none-begins e = no-item (rw e)
 
   -- its record has at most 4,096 words, or more
-  module _ (x : Record (List ℕ)) (r : List ℕ) (e : beginsIn id (frontOf bytes) ≡ got x r) where
+  module _ (x : Item) (r : List ℕ) (e : beginsIn id (frontOf bytes) ≡ got x r) where
     pub many-words : wordsMost < length (recordOf x) → wordsIn ≡ none
     many-words h = no-item (rw (e, lt-leb (length (recordOf x)) wordsMost h))
 
@@ -137,7 +137,7 @@ module _ (id : ℕ) (bytes out : List ℕ) where
   unfolding wordsIn
   some-words e = go (readIn id (frontOf bytes)) e
     where
-      go : (m : Parsed (Record (List ℕ))) → isNothing (readOf (frontOf bytes) m) ≡ false → 0 < length (wordsOf (readOf (frontOf bytes) m))
+      go : (m : Parsed Item) → isNothing (readOf (frontOf bytes) m) ≡ false → 0 < length (wordsOf (readOf (frontOf bytes) m))
       go fail e = absurd (true≢false e)
       go (got x r) e = record-some x
 

@@ -15,7 +15,7 @@ use Rattle.format.specs.Walk.{Walked, walked-no, walked-got}
 use Rattle.format.specs.declared.Done.{Done}
 use Rattle.format.specs.declared.Walk.{Walk}
 use Rattle.texts.specs.Judge.{wordsMost}
-use Rattle.items.specs.Record.{Record, beginsIn, recordOf}
+use Rattle.items.specs.Record.{Item, beginsIn, recordOf}
 use Rattle.thriftbell.specs.Read.{frontOf, wordsIn, none-read, short-out, was-read, none-begins, many-words, few-words}
 use Rattle.thriftbell.proofs.read_front.Statement.{statement}
 use Rattle.thriftbell.proofs.read_front.Tie as tie
@@ -31,19 +31,19 @@ returns c =
     let e = walked-no recordOf (λ x. 9) b _ _ _ _ (beginsIn (a .id) b) (c .before .before .before .walk-bytes .ensures) (c .enum-told .given .1) in
     none-read (a .id) b (now (a .out)) (none-begins (a .id) b (now (a .out)) (ap (beginsIn (a .id)) (all-of (c .before .before .before .before .before .before .before)) ∙ e))
 
-adds-of : (b : List ℕ) (m : Parsed (Record (List ℕ))) (x : Record (List ℕ)) (t old : List ℕ) (s : Done) (new : List ℕ) (r : Walk) → m ≡ got x t
+adds-of : (b : List ℕ) (m : Parsed Item) (x : Item) (t old : List ℕ) (s : Done) (new : List ℕ) (r : Walk) → m ≡ got x t
     → Walked recordOf (λ x. 9) b m old s new r → (u : Done) × Adds (recordOf x) 9 old s new u
-adds-of b m x t old s new r e h = let k = subst (λ (p : Parsed (Record (List ℕ))). Walked recordOf (λ x. 9) b p old s new r) e h in (k .0, k .2)
+adds-of b m x t old s new r e h = let k = subst (λ (p : Parsed Item). Walked recordOf (λ x. 9) b p old s new r) e h in (k .0, k .2)
 
 -- the item, where it ends, and how many words its record has
-record Item (id : ℕ) (b : List ℕ) (end n : ℕ) : Type 0 where
-  value : Record (List ℕ)
+record Begun (id : ℕ) (b : List ℕ) (end n : ℕ) : Type 0 where
+  value : Item
   rest : List ℕ
   is : beginsIn id b ≡ got value rest
   place : placeOf b rest ≡ end
   count : n ≡ counted (length (recordOf value))
 
-item : (k : tie.After-end) → let a = k .before .before .before .before .before .before .before .args in Item (a .id) (now (a .front)) (k .end .given .0 .0) (k .end .given .0 .1 .0 .n)
+item : (k : tie.After-end) → let a = k .before .before .before .before .before .before .before .args in Begun (a .id) (now (a .front)) (k .end .given .0 .0) (k .end .given .0 .1 .0 .n)
 item k =
     let a = k .before .before .before .before .before .before .before .args in
     let b = now (a .front) in
