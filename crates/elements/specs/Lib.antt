@@ -7,3 +7,4 @@ pub mod Exception
 pub mod Section
 pub mod Written
 pub mod Filled
+pub mod Examples

@@ -12,6 +12,7 @@ use borrow.Author.Tests.{ne-eqb, eqb-true}
 use Rattle.format.specs.Parsed.{Parsed, fail, got, bind, map}
 use Rattle.format.specs.Count.{Adds}
 use Rattle.format.specs.Read.{drop-more, drop-end, drop-two, one-read, none-read}
+use Rattle.format.specs.Sequence.{joins-got}
 use Rattle.format.specs.Told.{one-at}
 use Rattle.format.specs.Walk.{walks-no, walked-as}
 use Rattle.format.specs.Write.{fits-or}
@@ -25,9 +26,9 @@ use Rattle.texts.specs.Words.{span}
 use Rattle.texts.specs.Place.{sizedAt, textAt, stands, stands-not}
 use Rattle.texts.specs.declared.Span.{Span}
 use Rattle.texts.specs.declared.TextAt.the-variants.{At, No}
-use Rattle.parts.specs.Text.{nameBytes}
+use Rattle.parts.specs.Text.{name, nameBytes}
 use Rattle.parts.specs.Both.{behind}
-use Rattle.parts.specs.Writing.{Writing, itemOf, lowOf}
+use Rattle.parts.specs.Writing.{Writing, itemOf, lowOf, both-joins}
 use Rattle.parts.specs.Chosen.{chosen-writing}
 use Rattle.parts.specs.Reading.{Reading, recordAt, two-reads}
 use Rattle.imports.specs.Entity.{entityBytes}
@@ -86,9 +87,12 @@ module _ (t w : List ℕ) (at : ℕ) (old : List ℕ) (s : Done) (new : List ℕ
   words-empty h = walks-no words (itemOf importSection t) (lowOf importSection t) w at old s new (rw (drop-end w at h))
 
   module _ (h : at < length w) where
-    pub form-word : (f : Form) → getD w at 0 ≡ formOf f → (r : Walk) → Writing (form f) t w (at + 1) old s new r → Writing importSection t w at old s new r
-    form-word f e r x =
-        chosen-writing formWord (λ f. tt) form bytes (λ x. (λ h. h, λ h. h)) (λ x. refl) f t w at (at + 1) old s new r (one-read formWord f (formOf f) tt refl w at h e) x
+    -- the module's name was walked, and then what the form has behind it
+    pub form-word : (f : Form) → getD w at 0 ≡ formOf f → (cur : List ℕ) (p : ℕ) (u : Done) (r : Walk) → Writing name t w (at + 1) old s cur (walks.Got p u)
+        → Writing (rest f) t w p cur u new r → Writing importSection t w at old s new r
+    form-word f e cur p u r x y =
+        chosen-writing formWord (λ f. tt) form bytes (λ x. (λ h. h, λ h. h)) (λ x. refl) f t w at (at + 1) old s new r (one-read formWord f (formOf f) tt refl w at h e)
+        (joins-got _ _ _ _ _ _ _ _ _ (both-joins name (rest f) t) w (at + 1) old s cur (walks.Got p u) x new p u r refl y)
 
     pub no-form : ((f : Form) → getD w at 0 ≡ formOf f → ⊥) → Writing importSection t w at old s new walks.No
     no-form n = walks-no words (itemOf importSection t) (lowOf importSection t) w at old s new (rw (none-read formWord formOf (λ f. refl) w at h n))

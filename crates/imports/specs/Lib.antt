@@ -3,3 +3,4 @@ pub mod Entity
 pub mod Forms
 pub mod Compact
 pub mod Section
+pub mod Examples

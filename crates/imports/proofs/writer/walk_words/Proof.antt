@@ -1,13 +1,13 @@
 -- `imports::writer::walk_words` meets its contract: the form by the first word, a name, and what follows it. Assumes nothing.
 use denote.Ref.{now}
-use mathlib.Core.Path.{_≡_}
+use mathlib.Core.Path.{subst}
 use Prim.Native.Nat.{_+_}
-use Rattle.format.specs.Sequence.{joins-no, joins-got}
 use Rattle.format.specs.Walk.{no-walks}
+use Rattle.format.specs.declared.Walk.{Walk}
+use Rattle.format.specs.declared.Walk.the-variants as walks
 use Rattle.texts.specs.Words.{span}
 use Rattle.parts.specs.Text.{name}
-use Rattle.parts.specs.Writing.{itemOf, lowOf, both-joins}
-use Rattle.imports.specs.Forms.{rest}
+use Rattle.parts.specs.Writing.{Writing, itemOf, lowOf}
 use Rattle.imports.specs.declared.Form.the-variants.{Single, Compact1, Compact2}
 use Rattle.imports.proofs.Imports.{words-empty, form-word, no-form, no-name}
 use borrow.Author.Needs.{needs}
@@ -24,29 +24,18 @@ returns-2 c =
     let w = now (a .words) in
     no-name t w (a .at) (now (a .out)) (a .s) _ (c .before .before .before .before .before .before .if1 .left) (no-walks span (itemOf name t) (lowOf name t) w (a .at + 1) (now (a .out)) (a .s) _ _ (c .before .before .before .before .walk-name .ensures) (c .enum-told .given .1))
 
+-- the module's name that was walked
+named : (k : tie.After-p) → let a = k .before .before .before .before .before .before .before .before .before .before .args in let v = k .p .given .0 in Writing name (now (a .text)) (now (a .words)) (a .at + 1) (now (a .out)) (a .s) (k .before .before .before .before .walk-name .last .1 .1 .1 .0) (walks.Got (v .0) (v .1 .0))
+named k = let a = k .before .before .before .before .before .before .before .before .before .before .args in subst (λ (r : Walk). Writing name (now (a .text)) (now (a .words)) (a .at + 1) (now (a .out)) (a .s) (k .before .before .before .before .walk-name .last .1 .1 .1 .0) r) (k .p .given .1) (k .before .before .before .before .walk-name .ensures)
+
 returns-3 : tie.Need-returns-3
-returns-3 c =
-    let a = c .before .before .before .before .before .before .before .before .before .before .before .before .before .before .before .before .before .args in
-    let t = now (a .text) in
-    let w = now (a .words) in
-    let v = c .before .before .before .before .before .before .before .p .given .0 in
-    form-word t w (a .at) (now (a .out)) (a .s) _ (c .before .before .before .before .before .before .before .before .before .before .before .before .before .if1 .left) Single (c .before .before .before .before .match2 .keys1) _ (joins-got _ _ _ _ _ _ _ _ _ (both-joins name (rest Single) t) w (a .at + 1) (now (a .out)) (a .s) _ _ (c .before .before .before .before .before .before .before .before .before .before .before .walk-name .ensures) _ (v .0) (v .1 .0) _ (c .before .before .before .before .before .before .before .p .given .1) (c .before .before .walk-import .ensures))
+returns-3 c = let a = c .before .before .before .before .before .before .before .before .before .before .before .before .before .before .before .before .before .args in form-word (now (a .text)) (now (a .words)) (a .at) (now (a .out)) (a .s) _ (c .before .before .before .before .before .before .before .before .before .before .before .before .before .if1 .left) Single (c .before .before .before .before .match2 .keys1) _ _ _ _ (named (c .before .before .before .before .before .before .before)) (c .before .before .walk-import .ensures)
 
 returns-4 : tie.Need-returns-4
-returns-4 c =
-    let a = c .before .before .before .before .before .before .before .before .before .before .before .before .before .before .before .before .before .args in
-    let t = now (a .text) in
-    let w = now (a .words) in
-    let v = c .before .before .before .before .before .before .before .p .given .0 in
-    form-word t w (a .at) (now (a .out)) (a .s) _ (c .before .before .before .before .before .before .before .before .before .before .before .before .before .if1 .left) Compact1 (c .before .before .before .before .match2 .keys2) _ (joins-got _ _ _ _ _ _ _ _ _ (both-joins name (rest Compact1) t) w (a .at + 1) (now (a .out)) (a .s) _ _ (c .before .before .before .before .before .before .before .before .before .before .before .walk-name .ensures) _ (v .0) (v .1 .0) _ (c .before .before .before .before .before .before .before .p .given .1) (c .before .before .walk-compact1 .ensures))
+returns-4 c = let a = c .before .before .before .before .before .before .before .before .before .before .before .before .before .before .before .before .before .args in form-word (now (a .text)) (now (a .words)) (a .at) (now (a .out)) (a .s) _ (c .before .before .before .before .before .before .before .before .before .before .before .before .before .if1 .left) Compact1 (c .before .before .before .before .match2 .keys2) _ _ _ _ (named (c .before .before .before .before .before .before .before)) (c .before .before .walk-compact1 .ensures)
 
 returns-5 : tie.Need-returns-5
-returns-5 c =
-    let a = c .before .before .before .before .before .before .before .before .before .before .before .before .before .before .before .before .before .args in
-    let t = now (a .text) in
-    let w = now (a .words) in
-    let v = c .before .before .before .before .before .before .before .p .given .0 in
-    form-word t w (a .at) (now (a .out)) (a .s) _ (c .before .before .before .before .before .before .before .before .before .before .before .before .before .if1 .left) Compact2 (c .before .before .before .before .match2 .keys3) _ (joins-got _ _ _ _ _ _ _ _ _ (both-joins name (rest Compact2) t) w (a .at + 1) (now (a .out)) (a .s) _ _ (c .before .before .before .before .before .before .before .before .before .before .before .walk-name .ensures) _ (v .0) (v .1 .0) _ (c .before .before .before .before .before .before .before .p .given .1) (c .before .before .walk-compact2 .ensures))
+returns-5 c = let a = c .before .before .before .before .before .before .before .before .before .before .before .before .before .before .before .before .before .args in form-word (now (a .text)) (now (a .words)) (a .at) (now (a .out)) (a .s) _ (c .before .before .before .before .before .before .before .before .before .before .before .before .before .if1 .left) Compact2 (c .before .before .before .before .match2 .keys3) _ _ _ _ (named (c .before .before .before .before .before .before .before)) (c .before .before .walk-compact2 .ensures)
 
 returns-6 : tie.Need-returns-6
 returns-6 c =
