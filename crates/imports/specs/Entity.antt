@@ -67,15 +67,15 @@ sort = table 0x21 sortOf sorts sort-small sort-full
 
 -- ---- what stands behind the sort
 
-abbrev pub Type-of : Sort → Type 0
-Type-of function = ℕ
-Type-of ofTable = TableType
-Type-of ofMemory = MemoryType
-Type-of ofGlobal = GlobalType
-Type-of ofTag = TagType
-Type-of exact = ℕ
+abbrev pub TypeOf : Sort → Type 0
+TypeOf function = ℕ
+TypeOf ofTable = TableType
+TypeOf ofMemory = MemoryType
+TypeOf ofGlobal = GlobalType
+TypeOf ofTag = TagType
+TypeOf exact = ℕ
 
-abbrev pub typeWords : (k : Sort) → Format (Type-of k)
+abbrev pub typeWords : (k : Sort) → Format (TypeOf k)
 typeWords function = word
 typeWords ofTable = tableWords
 typeWords ofMemory = memoryWords
@@ -83,7 +83,7 @@ typeWords ofGlobal = globalWords
 typeWords ofTag = tagWords
 typeWords exact = word
 
-abbrev pub typeBytes : (k : Sort) → Format (Type-of k)
+abbrev pub typeBytes : (k : Sort) → Format (TypeOf k)
 typeBytes function = u32
 typeBytes ofTable = tableBytes
 typeBytes ofMemory = memoryBytes
@@ -101,7 +101,7 @@ type-agree exact x = (λ h. h, λ h. h)
 
 -- ---- an entity type is a sort and its type
 
-abbrev pub entityTo : EntityType → (k : Sort) × Type-of k
+abbrev pub entityTo : EntityType → (k : Sort) × TypeOf k
 entityTo (Function x) = (function, x)
 entityTo (Table t) = (ofTable, t)
 entityTo (Memory t) = (ofMemory, t)
@@ -109,7 +109,7 @@ entityTo (Global t) = (ofGlobal, t)
 entityTo (Tag t) = (ofTag, t)
 entityTo (FunctionExact x) = (exact, x)
 
-abbrev pub entityOf : (k : Sort) → Type-of k → EntityType
+abbrev pub entityOf : (k : Sort) → TypeOf k → EntityType
 entityOf function x = Function x
 entityOf ofTable t = Table t
 entityOf ofMemory t = Memory t
@@ -120,10 +120,10 @@ entityOf exact x = FunctionExact x
 pub entity-back : (e : EntityType) → entityOf (entityTo e .0) (entityTo e .1) ≡ e
 entity-back = elim [ Function x ↦ refl | Table t ↦ refl | Memory t ↦ refl | Global t ↦ refl | Tag t ↦ refl | FunctionExact x ↦ refl ]
 
-pub entity-of : (p : (k : Sort) × Type-of k) → entityTo (entityOf (p .0) (p .1)) ≡ p
+pub entity-of : (p : (k : Sort) × TypeOf k) → entityTo (entityOf (p .0) (p .1)) ≡ p
 entity-of p = go (p .0) (p .1)
   where
-    go : (k : Sort) (t : Type-of k) → entityTo (entityOf k t) ≡ (k, t)
+    go : (k : Sort) (t : TypeOf k) → entityTo (entityOf k t) ≡ (k, t)
     go function x = refl
     go ofTable t = refl
     go ofMemory t = refl
@@ -131,7 +131,7 @@ entity-of p = go (p .0) (p .1)
     go ofTag t = refl
     go exact x = refl
 
-abbrev pub entityType : ((k : Sort) → Format (Type-of k)) → Format EntityType
+abbrev pub entityType : ((k : Sort) → Format (TypeOf k)) → Format EntityType
 entityType F = iso (dep sort F) entityTo (λ p. entityOf (p .0) (p .1)) entity-back entity-of
 
 abbrev pub entityWords : Format EntityType

@@ -12,17 +12,18 @@ use tables::walk_table_type;
 use tables::walk_tag_type;
 ghost use Prim.Native.Nat.{_≤_};
 ghost use lib.ListN.{length};
+ghost use Rattle.format.specs.Walk.{Walks};
 ghost use Rattle.parts.specs.Listed.{listed};
 ghost use Rattle.parts.specs.Writing.{Writing, MembersWritten};
-ghost use Rattle.imports.specs.Entity.{entity};
+ghost use Rattle.imports.specs.Entity.{entityWords, entityBytes};
 ghost use Rattle.imports.specs.Forms.{rest, member};
 ghost use Rattle.imports.specs.declared.Form.the-variants.{Compact1, Compact2};
 ghost use Rattle.imports.specs.declared.Member.the-variants.{Import};
 ghost use Rattle.imports.specs.Section.{importSection};
 
 // The sort, and what it is a sort of.
-pub fn walk_entity(words: &[u32], at: usize, text: &[u8], out: &mut [u8], s: Done) -> Walk
-    ensures { λ r. ⌜ Writing entity (now (text .entry)) (now (words .entry)) at (now (out .entry)) s (now (out .exit)) r ⌝ }
+pub fn walk_entity(words: &[u32], at: usize, out: &mut [u8], s: Done) -> Walk
+    ensures { λ r. ⌜ Walks entityWords (entityBytes .print) (λ x. 9) (now (words .entry)) at (now (out .entry)) s (now (out .exit)) r ⌝ }
 {
     if words.len() <= at {
         return Walk::No;
@@ -50,7 +51,7 @@ fn walk_import(words: &[u32], at: usize, text: &[u8], out: &mut [u8], s: Done) -
     let Walk::Got(p, t) = walk_name(words, at, text, out, s) else {
         return Walk::No;
     };
-    walk_entity(words, p, text, out, t)
+    walk_entity(words, p, out, t)
 }
 
 fn walk_member(m: Member, words: &[u32], at: usize, text: &[u8], out: &mut [u8], s: Done) -> Walk
@@ -119,7 +120,7 @@ fn walk_compact2(words: &[u32], at: usize, text: &[u8], out: &mut [u8], s: Done)
 {
     let t = append_byte(0x00, out, s);
     let u = append_byte(0x7E, out, t);
-    let Walk::Got(p, v) = walk_entity(words, at, text, out, u) else {
+    let Walk::Got(p, v) = walk_entity(words, at, out, u) else {
         return Walk::No;
     };
     walk_list(Member::Name, words, p, text, out, v)

@@ -9,7 +9,7 @@ use Rattle.frames.specs.declared.SectionId.{SectionId}
 use Rattle.frames.specs.declared.SectionId.the-variants.{Types, Imports, Tables, Elements, Data}
 use Rattle.texts.specs.declared.Span.{Span}
 use Rattle.elements.specs.Exception as elements
-use Rattle.elements.specs.Filled as elements′
+use Rattle.elements.specs.Filled as segments
 use Rattle.items.specs.Record.{Body, ItemOf, section, Record}
 
 -- each span of a record as what it holds in the text
@@ -17,7 +17,7 @@ abbrev pub filledBody : List ℕ → (i : SectionId) → Body i Span → Body i 
 filledBody t Types a = a
 filledBody t Imports a = section Imports .resolve t a
 filledBody t Tables a = section Tables .resolve t a
-filledBody t Elements a = elements′.filled t a
+filledBody t Elements a = segments.filled t a
 filledBody t Data a = section Data .resolve t a
 
 abbrev pub filled : List ℕ → Record Span → Record (List ℕ)
@@ -48,7 +48,7 @@ pub read-filled : (i : SectionId) (q r : List ℕ) (x : ItemOf i) → section i 
 read-filled Types q r x ok = refl
 read-filled Imports q r x ok = section Imports .located q r x ok
 read-filled Tables q r x ok = section Tables .located q r x ok
-read-filled Elements q r x ok = elements′.read-filled q r x ok
+read-filled Elements q r x ok = segments.read-filled q r x ok
 read-filled Data q r x ok = section Data .located q r x ok
 
 -- and the item of an added record those that the record holds, but for the exception
@@ -56,5 +56,5 @@ pub added-filled : (i : SectionId) (t : List ℕ) (a : Body i Span) → recordFr
 added-filled Types t a = refl
 added-filled Imports t a = refl
 added-filled Tables t a = refl
-added-filled Elements t a = elements′.added-filled t a
+added-filled Elements t a = segments.added-filled t a
 added-filled Data t a = refl
