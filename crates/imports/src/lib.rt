@@ -2,13 +2,11 @@
 mod reader;
 mod writer;
 
-pub use reader::read_entity;
 pub use reader::walk_bytes;
 use tables::GlobalType;
 use tables::MemoryType;
 use tables::TableType;
 use tables::TagType;
-pub use writer::walk_entity;
 pub use writer::walk_words;
 
 pub enum EntityType {

@@ -31,7 +31,7 @@ ghost use Rattle.imports.specs.Compact.{formAt};
 ghost use Rattle.imports.specs.Section.{importSection};
 
 // The sort, and what it is a sort of.
-pub fn read_entity(b: &[u8], at: usize, out: &mut [u32], s: Done) -> Walk
+fn read_entity(b: &[u8], at: usize, out: &mut [u32], s: Done) -> Walk
     ensures { λ r. ⌜ Reading entity (now (b .entry)) at (now (out .entry)) s (now (out .exit)) r ⌝ }
 {
     if b.len() <= at {

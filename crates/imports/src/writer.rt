@@ -22,7 +22,7 @@ ghost use Rattle.imports.specs.declared.Member.the-variants.{Import};
 ghost use Rattle.imports.specs.Section.{importSection};
 
 // The sort, and what it is a sort of.
-pub fn walk_entity(words: &[u32], at: usize, out: &mut [u8], s: Done) -> Walk
+fn walk_entity(words: &[u32], at: usize, out: &mut [u8], s: Done) -> Walk
     ensures { λ r. ⌜ Walks entityWords (entityBytes .print) (λ x. 9) (now (words .entry)) at (now (out .entry)) s (now (out .exit)) r ⌝ }
 {
     if words.len() <= at {
