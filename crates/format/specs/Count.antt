@@ -2,7 +2,7 @@
 -- Assumes nothing.
 use mathlib.Core.Path.{_≡_, refl, sym, _∙_, ap, subst}
 use mathlib.Core.List.{List, [], _∷_, _++_, append-assoc, append-nil}
-use Prim.Native.Nat.{ℕ, _+_, _-_, _≤_, min}
+use Prim.Native.Nat.{ℕ, _+_, _-_, _*_, _/_, _%_, _≤_, min}
 use native.Mathlib.Omega.{arith}
 use lib.ListN.{length, getD, take, drop, set, length-append, length-drop, length-set}
 use lib.Seq.{set-append-seam, take-at, drop-at, drop-drop}
@@ -16,16 +16,31 @@ use Rattle.format.specs.declared.Done.{Done}
 abbrev pub counted : ℕ → ℕ
 counted n = min n 65537
 
+-- how much was appended, and the lowest refusal
+abbrev pub countIn : Done → ℕ
+countIn s = s .v / 16
+
+abbrev pub lowIn : Done → ℕ
+lowIn s = s .v % 16
+
+abbrev pub grownBy : Done → ℕ → ℕ
+grownBy s k = 16 * counted (countIn s + k) + lowIn s
+
 abbrev pub lowered : Done → ℕ → Done
-lowered s k = record { n = s .n; low = min (s .low) k }
+lowered s k = record { v = 16 * countIn s + min (lowIn s) k }
 
 -- p was appended to a buffer that held old and now holds out; l is the lowest refusal (9: none)
 pub record Has (p : List ℕ) (l : ℕ) (old out : List ℕ) (s : Done) : Type 0 where
-  pub count : s .n ≡ counted (length p)
-  pub lowest : s .low ≡ l
+  pub holds : s .v ≡ 16 * counted (length p) + l
   pub small : l ≤ 9
   pub kept : length out ≡ length old
   pub bytes : length p ≤ 65536 → length p ≤ length old → out ≡ over p old
+
+pub has-count : {p : List ℕ} {l : ℕ} {old out : List ℕ} {s : Done} → Has p l old out s → countIn s ≡ counted (length p)
+has-count h = omega (arith, h .holds, h .small)
+
+pub has-lowest : {p : List ℕ} {l : ℕ} {old out : List ℕ} {s : Done} → Has p l old out s → lowIn s ≡ l
+has-lowest h = omega (arith, h .holds, h .small)
 
 -- q is appended, with the refusal m, whatever was appended before
 pub record Adds (q : List ℕ) (m : ℕ) (before : List ℕ) (s : Done) (after : List ℕ) (t : Done) : Type 0 where
@@ -59,38 +74,35 @@ adds-low {q} {m} {a} {s} {b} {t} k x = record { more = go }
     go : (p : List ℕ) (l : ℕ) (old : List ℕ) → Has p l old a s → Has (p ++ q) (min l (min m k)) old b (lowered t k)
     go p l old h =
         let g = x .more p l old h in
-        let e : t .low ≡ min l m = g .lowest in
-        let i : l ≤ 9 = h .small in
-        record { count = g .count; lowest = omega arith; small = omega arith; kept = g .kept; bytes = g .bytes }
+        record { holds = omega (arith, g .holds, g .small); small = omega (arith, g .small); kept = g .kept; bytes = g .bytes }
 
 -- ---- the start, where nothing has been appended yet, and the end
 
-pub has-start : (old : List ℕ) (s : Done) → s .n ≡ 0 → s .low ≡ 9 → Has [] 9 old old s
-has-start old s e f = record { count = e; lowest = f; small = omega arith; kept = refl; bytes = λ h k. refl }
+pub has-start : (old : List ℕ) (s : Done) (l : ℕ) → s .v ≡ l → l ≤ 9 → Has [] l old old s
+has-start old s l e h = record { holds = omega (arith, e); small = h; kept = refl; bytes = λ i k. refl }
 
-pub adds-fresh : {q : List ℕ} {m : ℕ} {old new : List ℕ} {s t : Done} → Adds q m old s new t → s .n ≡ 0 → s .low ≡ 9 → m ≤ 9 → Has q m old new t
-adds-fresh {q} {m} {old} {new} {s} x e f h = has-eq refl (omega arith) (x .more [] 9 old (has-start old s e f))
+pub adds-fresh : {q : List ℕ} {m : ℕ} {old new : List ℕ} {s t : Done} → Adds q m old s new t → s .v ≡ 9 → m ≤ 9 → Has q m old new t
+adds-fresh {q} {m} {old} {new} {s} x e h = has-eq refl (omega arith) (x .more [] 9 old (has-start old s 9 e (omega arith)))
 
 -- ---- a leaf: it is counted, and where all fits it leaves its bytes behind those before
 
-module _ (b out new : List ℕ) (s t : Done) (n : t .n ≡ counted (s .n + length b)) (f : t .low ≡ s .low) (k : length new ≡ length out) where
-  leaf-has : ((p old : List ℕ) → s .n ≡ length p → length p + length b ≤ length out → length out ≡ length old → out ≡ over p old → new ≡ over (p ++ b) old)
+module _ (b out new : List ℕ) (s t : Done) (g : t .v ≡ grownBy s (length b)) (k : length new ≡ length out) where
+  leaf-has : ((p old : List ℕ) → countIn s ≡ length p → length p + length b ≤ length out → length out ≡ length old → out ≡ over p old → new ≡ over (p ++ b) old)
       → (p : List ℕ) (l : ℕ) (old : List ℕ) → Has p l old out s → Has (p ++ b) (min l 9) old new t
   leaf-has w p l old h =
-      let c : s .n ≡ min (length p) 65537 = h .count in
-      let o : length out ≡ length old = h .kept in
-      let e : s .low ≡ l = h .lowest in
+      let c = has-count h in
+      let e = has-lowest h in
       let i : l ≤ 9 = h .small in
+      let o : length out ≡ length old = h .kept in
       let long : length (p ++ b) ≡ length p + length b = length-append p b in
       record {
-        count = omega arith;
-        lowest = omega arith;
+        holds = omega (arith, g, c, e);
         small = omega arith;
         kept = k ∙ o;
-        bytes = λ u v. w p old (omega arith) (omega arith) o (h .bytes (omega arith) (omega arith));
+        bytes = λ u v. w p old (omega (arith, c)) (omega arith) o (h .bytes (omega arith) (omega arith));
       }
 
-  pub adds-leaf : ((p old : List ℕ) → s .n ≡ length p → length p + length b ≤ length out → length out ≡ length old → out ≡ over p old → new ≡ over (p ++ b) old)
+  pub adds-leaf : ((p old : List ℕ) → countIn s ≡ length p → length p + length b ≤ length out → length out ≡ length old → out ≡ over p old → new ≡ over (p ++ b) old)
       → Adds b 9 out s new t
   adds-leaf w = record { more = leaf-has w }
 
@@ -99,12 +111,12 @@ behind : (p b old : List ℕ) → p ++ over b (drop (length p) old) ≡ over (p 
 behind p b old = rw (drop-drop, length-append, append-assoc)
 
 -- a writer was lent the part from the current end on
-pub adds-part : (b out part : List ℕ) {r : Written} (s t : Done) (at : ℕ) → at ≡ min (s .n) (length out) → t .n ≡ counted (s .n + length b) → t .low ≡ s .low
+pub adds-part : (b out part : List ℕ) {r : Written} (s t : Done) (at : ℕ) → at ≡ min (countIn s) (length out) → t .v ≡ grownBy s (length b)
     → length part ≡ length (midOf at (length out - at) out) → Writes b (midOf at (length out - at) out) part r
     → Adds b 9 out s (putMid at (length out - at) out part) t
-adds-part b out part {r} s t at is n f k w = adds-leaf b out (putMid at (length out - at) out part) s t n f (same-len-mid at (length out - at) out part k) go
+adds-part b out part {r} s t at is g k w = adds-leaf b out (putMid at (length out - at) out part) s t g (same-len-mid at (length out - at) out part k) go
   where
-    go : (p old : List ℕ) → s .n ≡ length p → length p + length b ≤ length out → length out ≡ length old → out ≡ over p old
+    go : (p old : List ℕ) → countIn s ≡ length p → length p + length b ≤ length out → length out ≡ length old → out ≡ over p old
         → putMid at (length out - at) out part ≡ over (p ++ b) old
     go p old e room o d =
         let v : Writes b (drop at out) part r = rw rest-lent at w in
@@ -115,15 +127,15 @@ adds-part b out part {r} s t at is n f k w = adds-leaf b out (putMid at (length 
         rw (rest-back at out part (omega arith), front, wrote v fits .1, rest) (behind p b old)
 
 -- one number, by a store at the current end
-pub adds-set : (x : ℕ) (out : List ℕ) (s t : Done) → t .n ≡ counted (s .n + 1) → t .low ≡ s .low → Adds (x ∷ []) 9 out s (set out (s .n) x) t
-adds-set x out s t n f = adds-leaf (x ∷ []) out (set out (s .n) x) s t n f (length-set out (s .n) x) go
+pub adds-set : (x : ℕ) (out : List ℕ) (s t : Done) → t .v ≡ grownBy s 1 → Adds (x ∷ []) 9 out s (set out (countIn s) x) t
+adds-set x out s t g = adds-leaf (x ∷ []) out (set out (countIn s) x) s t g (length-set out (countIn s) x) go
   where
-    go : (p old : List ℕ) → s .n ≡ length p → length p + 1 ≤ length out → length out ≡ length old → out ≡ over p old → set out (s .n) x ≡ over (p ++ (x ∷ [])) old
+    go : (p old : List ℕ) → countIn s ≡ length p → length p + 1 ≤ length out → length out ≡ length old → out ≡ over p old → set out (countIn s) x ≡ over (p ++ (x ∷ [])) old
     go p old e r o d =
         let m : drop (length p) old ≡ getD old (length p) 0 ∷ drop (length p + 1) old = drop-more old (length p) (omega arith) in
         let q : out ≡ p ++ (getD old (length p) 0 ∷ drop (length p + 1) old) = d ∙ ap (λ (l : List ℕ). p ++ l) m in
         rw (e, q, set-append-seam p (getD old (length p) 0) (drop (length p + 1) old) x, length-append p (x ∷ []), append-assoc p (x ∷ []) (drop (length p + 1) old))
 
 -- there is no room for it
-pub adds-past : (x : ℕ) (out : List ℕ) (s t : Done) → t .n ≡ counted (s .n + 1) → t .low ≡ s .low → length out ≤ s .n → Adds (x ∷ []) 9 out s out t
-adds-past x out s t n f h = adds-leaf (x ∷ []) out out s t n f refl (λ p old e r o d. absurd (omega arith))
+pub adds-past : (x : ℕ) (out : List ℕ) (s t : Done) → t .v ≡ grownBy s 1 → length out ≤ countIn s → Adds (x ∷ []) 9 out s out t
+adds-past x out s t g h = adds-leaf (x ∷ []) out out s t g refl (λ p old e r o d. absurd (omega arith))

@@ -3,7 +3,7 @@ ghost use mathlib.Core.Path.{_≡_};
 ghost use mathlib.Core.List.{[], _∷_};
 ghost use Prim.Native.Nat.{_+_, min};
 ghost use Rattle.format.specs.Write.{Writes};
-ghost use Rattle.format.specs.Count.{Adds, counted, lowered};
+ghost use Rattle.format.specs.Count.{Adds, counted, countIn, lowIn, grownBy, lowered};
 
 // What a writer answers: how many numbers it wrote at the front of what it was lent, or that they do not fit and nothing was written.
 pub enum Written {
@@ -21,10 +21,33 @@ pub fn copy(b: &[u8], out: &mut [u8]) -> Written
     Written::Length(bytes::copy(b, out))
 }
 
-// A count of all that was appended to a lent buffer, 65,537 standing for more than 65,536; and the lowest refusal drawn so far, 9 standing for none.
+pub fn copy_words(w: &[u32], out: &mut [u32]) -> Written
+    ensures { λ r. ⌜ Writes (now (w .entry)) (now (out .entry)) (now (out .exit)) r ⌝ }
+{
+    if out.len() < w.len() {
+        return Written::Short;
+    }
+    let mut i = 0;
+    while i < w.len() {
+        out[i] = w[i];
+        i += 1;
+    }
+    Written::Length(i)
+}
+
+// How much was appended to a lent buffer, 65,537 standing for more than 65,536, times 16; and the lowest refusal drawn so far, 9 standing for none. One
+// number, so that a walk hands it to the next in a register.
 pub struct Done {
-    pub n: usize,
-    pub low: u32,
+    pub v: u64,
+}
+
+impl Done {
+    // Nothing was appended yet.
+    pub fn new(low: u32) -> Done
+        ensures { λ r. ⌜ r .v ≡ low ⌝ }
+    {
+        Done { v: low as u64 }
+    }
 }
 
 // What a walk finds: nothing; or the place behind what it read, and what is done.
@@ -52,50 +75,73 @@ pub fn more(a: usize, b: usize) -> usize
     least(a + b, 65537)
 }
 
+pub fn count(s: Done) -> usize
+    ensures { λ r. ⌜ r ≡ countIn s ⌝ }
+{
+    (s.v / 16) as usize
+}
+
+pub fn low(s: Done) -> u32
+    ensures { λ r. ⌜ r ≡ lowIn s ⌝ }
+{
+    (s.v % 16) as u32
+}
+
+// k more were appended.
+pub fn grown(s: Done, k: usize) -> Done
+    ensures { λ r. ⌜ r .v ≡ grownBy s k ⌝ }
+{
+    let v = s.v;
+    if more((v / 16) as usize, k) < 65537 {
+        return Done {
+            v: v + 16 * k as u64,
+        };
+    }
+    Done {
+        v: 16 * 65537 + v % 16,
+    }
+}
+
 // A refusal is drawn.
 pub fn lower(s: Done, k: u32) -> Done
     ensures { λ r. ⌜ r ≡ lowered s k ⌝ }
 {
-    let n = s.n;
-    let low = s.low;
-    if k < low {
-        return Done { n: n, low: k };
+    let v = s.v;
+    if (k as u64) < v % 16 {
+        return Done {
+            v: v - v % 16 + k as u64,
+        };
     }
-    Done { n: n, low: low }
+    Done { v: v }
 }
 
 // Every appender writes what there is room for and answers as if there were room for all.
 pub fn append_byte(b: u8, out: &mut [u8], s: Done) -> Done
     ensures { λ r. ⌜ Adds (b ∷ []) 9 (now (out .entry)) s (now (out .exit)) r ⌝ }
 {
-    let n = s.n;
-    let low = s.low;
-    let k = more(n, 1);
+    let n = count(s);
+    let t = grown(s, 1);
     if n < out.len() {
         out[n] = b;
     }
-    Done { n: k, low: low }
+    t
 }
 
 pub fn append_word(w: u32, out: &mut [u32], s: Done) -> Done
     ensures { λ r. ⌜ Adds (w ∷ []) 9 (now (out .entry)) s (now (out .exit)) r ⌝ }
 {
-    let n = s.n;
-    let low = s.low;
-    let k = more(n, 1);
+    let n = count(s);
+    let t = grown(s, 1);
     if n < out.len() {
         out[n] = w;
     }
-    Done { n: k, low: low }
+    t
 }
 
 pub fn append_run(b: &[u8], out: &mut [u8], s: Done) -> Done
     ensures { λ r. ⌜ Adds (now (b .entry)) 9 (now (out .entry)) s (now (out .exit)) r ⌝ }
 {
-    let n = s.n;
-    let low = s.low;
-    let k = more(n, b.len());
-    let at = least(n, out.len());
+    let at = least(count(s), out.len());
     copy(b, &mut out[at..]);
-    Done { n: k, low: low }
+    grown(s, b.len())
 }

@@ -6,7 +6,8 @@ use mathlib.Core.List.{List, _∷_}
 use Prim.Native.Nat.{ℕ, _≤_, _<_}
 use native.Mathlib.Omega.{arith}
 use lib.Dec.{eqb}
-use lib.ListN.{length, getD}
+use lib.ListN.{length, getD, take, drop}
+use lib.Seq.{take-at}
 use borrow.Author.Tests.{ne-eqb, eqb-true, eqb-false}
 use Rattle.format.specs.Write.{over}
 use Rattle.frames.specs.Frames.{idOf}
@@ -75,3 +76,11 @@ told-length w t n e = go (eqb (why records w t) 0) refl
 -- the item stands at the front, where nothing is drawn and there is room
 abbrev pub Puts : List ℕ → List ℕ → List ℕ → List ℕ → Type 0
 Puts w t old new = why records w t ≡ 0 → length (itemIn records w t) ≤ length old → new ≡ over (itemIn records w t) old
+
+-- n is its length, and it stands at the front of what was tried, where there was room for it
+abbrev pub Tried : List ℕ → List ℕ → ℕ → List ℕ → Type 0
+Tried w t n s = (length (itemIn records w t) ≡ n) × (n ≤ length s → take n s ≡ itemIn records w t)
+
+-- so judging leaves it
+pub judged-tried : (w t : List ℕ) (n : ℕ) (old new : List ℕ) → why records w t ≡ 0 → length (itemIn records w t) ≡ n → length new ≡ length old → Puts w t old new → Tried w t n new
+judged-tried w t n old new z e l p = (e, λ h. rw (p z (omega (arith, h, l, e))) (take-at (itemIn records w t) (drop (length (itemIn records w t)) old) n e))

@@ -2,12 +2,15 @@
 use format::Done;
 use format::Walk;
 use format::append_word;
+use format::copy;
+use format::count;
+use format::low;
 ghost use mathlib.Core.Path.{_≡_};
 ghost use Prim.Native.Nat.{_≤_};
 ghost use lib.ListN.{length};
 ghost use Rattle.format.specs.Walk.{Walked, Walks};
 ghost use Rattle.items.specs.Record.{words as wordsOf, itemOf, lowOf, beginsIn, recordOf};
-ghost use Rattle.items.specs.Judging.{judgedOf, Puts};
+ghost use Rattle.items.specs.Judging.{judgedOf, Tried, Puts};
 
 // Reads a record's words and appends its item.
 pub fn walk_words(words: &[u32], text: &[u8], out: &mut [u8], s: Done) -> Walk
@@ -48,15 +51,14 @@ pub enum Judged {
     Length(usize),
 }
 
-// Measured by a walk with nothing to write into.
-pub fn judge(words: &[u32], text: &[u8]) -> Judged
-    ensures { λ r. ⌜ r ≡ judgedOf (now (words .entry)) (now (text .entry)) ⌝ }
+// Measured by a walk, which leaves the item of a record that draws none of them in `tried`, where there is room.
+pub fn judge(words: &[u32], text: &[u8], tried: &mut [u8]) -> Judged
+    ensures { λ r. ⌜ (r ≡ judgedOf (now (words .entry)) (now (text .entry))) × Puts (now (words .entry)) (now (text .entry)) (now (tried .entry)) (now (tried .exit)) ⌝ }
 {
     if 4096 < words.len() {
         return Judged::Refused(2);
     }
-    let mut none = [0u8; 1];
-    let Walk::Got(end, s) = walk_words(words, text, &mut none, Done { n: 0, low: 9 }) else {
+    let Walk::Got(end, s) = walk_words(words, text, tried, Done::new(9)) else {
         return Judged::Refused(2);
     };
     if end != words.len() {
@@ -65,18 +67,24 @@ pub fn judge(words: &[u32], text: &[u8]) -> Judged
     if 65536 < text.len() {
         return Judged::Refused(3);
     }
-    if s.low < 9 {
-        return Judged::Refused(s.low);
+    if low(s) < 9 {
+        return Judged::Refused(low(s));
     }
-    if 65536 < s.n {
+    let n = count(s);
+    if 65536 < n {
         return Judged::Refused(6);
     }
-    Judged::Length(s.n)
+    Judged::Length(n)
 }
 
-// Writes the item of a record that draws none of them, where there is room. No refusal can be lower than 0, so that no text is checked again.
-pub fn put_item(words: &[u32], text: &[u8], out: &mut [u8])
-    ensures { λ r. ⌜ Puts (now (words .entry)) (now (text .entry)) (now (out .entry)) (now (out .exit)) ⌝ }
+// Writes the item of a record that draws none of them, where there is room: as judging left it, or by a second walk where that had no room. No refusal can be
+// lower than 0, so that no text is checked again.
+pub fn put_item(words: &[u32], text: &[u8], n: usize, tried: &[u8], out: &mut [u8])
+    ensures { λ r. ⌜ (Tried (now (words .entry)) (now (text .entry)) n (now (tried .entry)) → Puts (now (words .entry)) (now (text .entry)) (now (out .entry)) (now (out .exit))) ⌝ }
 {
-    walk_words(words, text, out, Done { n: 0, low: 0 });
+    if n <= tried.len() {
+        copy(&tried[0..n], out);
+        return;
+    }
+    walk_words(words, text, out, Done::new(0));
 }

@@ -1,8 +1,9 @@
 // Numbers as `Encode` of wasm-encoder's lib.rs writes them, in LEB128, and their readers: the argument of `leb128` at the widths in use.
 use format::Done;
 use format::Written;
+use format::count;
+use format::grown;
 use format::least;
-use format::more;
 use leb128::Parts;
 ghost use mathlib.Core.Path.{_≡_};
 ghost use lib.IntN.{pos};
@@ -95,12 +96,11 @@ pub fn encoding_size(n: u32) -> usize
 fn append_natural(signed: bool, v: u64, out: &mut [u8], s: Done) -> Done
     ensures { λ r. ⌜ Adds (leb signed (pos v)) 9 (now (out .entry)) s (now (out .exit)) r ⌝ }
 {
-    let n = s.n;
-    let low = s.low;
-    let k = more(n, leb128::size(signed, v));
-    let at = least(n, out.len());
-    leb128::encode(signed, false, v, &mut out[at..]);
-    Done { n: k, low: low }
+    let at = least(count(s), out.len());
+    match leb128::encode(signed, false, v, &mut out[at..]) {
+        Written::Length(k) => grown(s, k),
+        Written::Short => grown(s, leb128::size(signed, v)),
+    }
 }
 
 pub fn append_u32(v: u32, out: &mut [u8], s: Done) -> Done

@@ -11,7 +11,7 @@ use borrow.Author.Tests.{lt-ltb, le-ltb}
 use Rattle.format.specs.Parsed.{Parsed, got, got-rest, fail-got}
 use Rattle.format.specs.Read.{same-place}
 use Rattle.format.specs.Write.{over}
-use Rattle.format.specs.Count.{counted, Has, adds-fresh}
+use Rattle.format.specs.Count.{counted, countIn, lowIn, has-start, has-count, has-lowest, adds-fresh}
 use Rattle.format.specs.Walk.{Walks, Walked, no-walks, Gone, got-walks}
 use Rattle.format.specs.declared.Done.{Done}
 use Rattle.format.specs.declared.Walk.{Walk}
@@ -50,22 +50,22 @@ module _ {A : Type 0} (R : Records A) (w t : List ℕ) where
   pub record Measured (u : Done) : Type 0 where
     pub value : A
     pub is : recordIn R w ≡ some value
-    pub count : u .n ≡ counted (length (R .item t value))
-    pub lowest : u .low ≡ lowestOf t (R .texts value)
+    pub count : countIn u ≡ counted (length (R .item t value))
+    pub lowest : lowIn u ≡ lowestOf t (R .texts value)
 
   pub measured : (old : List ℕ) (s : Done) (new : List ℕ) (r : Walk) → AddWalks old s new r → {p : ℕ} {u : Done} → r ≡ walks.Got p u → p ≡ length w
-      → length w ≤ wordsMost → s .n ≡ 0 → s .low ≡ 9 → Measured u
-  measured old s new r h {p} {u} e all few n low =
+      → length w ≤ wordsMost → s .v ≡ 9 → Measured u
+  measured old s new r h {p} {u} e all few start =
       let g = gone old s new r h e in
       let end : drop p w ≡ [] = rw all (drop-length w) in
       let q : R .words .parse w ≡ got (g .value) [] = g .read ∙ ap (λ (l : List ℕ). got (g .value) l) end in
       let o = R .words .only w (g .value) [] q in
-      let k = adds-fresh (g .adds) n low (lowest-small t (R .texts (g .value))) in
+      let k = adds-fresh (g .adds) start (lowest-small t (R .texts (g .value))) in
       record {
         value = g .value;
         is = record-back R w (g .value) (o .0) (o .1 ∙ append-nil (R .words .print (g .value))) few;
-        count = k .count;
-        lowest = k .lowest;
+        count = has-count k;
+        lowest = has-lowest k;
       }
 
   module _ {u : Done} (m : Measured u) where
@@ -73,37 +73,34 @@ module _ {A : Type 0} (R : Records A) (w t : List ℕ) where
     long-text h = rw (m .is, lt-ltb textMost (length t) h)
 
     module _ (short : length t ≤ textMost) where
-      pub refused-text : u .low < 9 → why R w t ≡ u .low
+      pub refused-text : lowIn u < 9 → why R w t ≡ lowIn u
       refused-text h =
           let l = R .texts (m .value) in
           let k : lowestOf t l < 9 = rw (m .lowest) at h in
           rw (m .is, le-ltb textMost (length t) short, m .lowest) (drawn-first t l ((6, ltb itemMost (length (R .item t (m .value)))) ∷ []) k)
 
-      module _ (texts : 9 ≤ u .low) where
+      module _ (texts : 9 ≤ lowIn u) where
         none-low : lowestOf t (R .texts (m .value)) ≡ 9
         none-low = omega (arith, m .lowest, lowest-small t (R .texts (m .value)))
 
-        pub large-item : itemMost < u .n → why R w t ≡ 6
+        pub large-item : itemMost < countIn u → why R w t ≡ 6
         large-item h =
             let n = length (R .item t (m .value)) in
             let k : itemMost < n = omega (arith, m .count) in
             rw (m .is, le-ltb textMost (length t) short) (drawn-none t (R .texts (m .value)) ((6, ltb itemMost n) ∷ []) none-low ∙ rw (lt-ltb itemMost n k))
 
-        pub accepted : u .n ≤ itemMost → (why R w t ≡ 0) × (length (itemIn R w t) ≡ u .n)
+        pub accepted : countIn u ≤ itemMost → (why R w t ≡ 0) × (length (itemIn R w t) ≡ countIn u)
         accepted h =
-            let k : length (R .item t (m .value)) ≡ u .n = omega (arith, m .count) in
+            let k : length (R .item t (m .value)) ≡ countIn u = omega (arith, m .count) in
             (fine-accepted R w t (record { value = m .value; is = m .is; short = short; texts = none-low; fits = omega arith }), rw (m .is) k)
 
   -- ---- a second walk over words that were accepted leaves the item, whatever refusal it starts with
 
-  has-none : (old : List ℕ) (s : Done) → s .n ≡ 0 → s .low ≤ 9 → Has [] (s .low) old old s
-  has-none old s n l = record { count = n; lowest = refl; small = l; kept = refl; bytes = λ h k. refl }
-
-  pub second-walk : (old : List ℕ) (s : Done) (new : List ℕ) (r : Walk) → AddWalks old s new r → s .n ≡ 0 → s .low ≤ 9 → why R w t ≡ 0
+  pub second-walk : (old : List ℕ) (s : Done) (new : List ℕ) (r : Walk) → AddWalks old s new r → s .v ≤ 9 → why R w t ≡ 0
       → length (itemIn R w t) ≤ length old → new ≡ over (itemIn R w t) old
-  second-walk old s new r h n l e room =
+  second-walk old s new r h l e room =
       let f = fine R w t e in
       let (ok, p, _) = record-inv R w (f .value) (f .is) in
       let k : Walked (R .item t) (λ a. lowestOf t (R .texts a)) w (got (f .value) []) old s new r =
       subst (λ (m : Parsed A). Walked (R .item t) (λ a. lowestOf t (R .texts a)) w m old s new r) (whole-back R w (f .value) ok p) h in
-      rw (f .is) (k .2 .more [] (s .low) old (has-none old s n l) .bytes (f .fits) (rw (f .is) at room))
+      rw (f .is) (k .2 .more [] (s .v) old (has-start old s (s .v) refl l) .bytes (f .fits) (rw (f .is) at room))

@@ -3,6 +3,7 @@ mod reader;
 
 use format::Done;
 use format::append_run;
+use format::low;
 use format::lower;
 use numbers::append_u32;
 pub use reader::append_span;
@@ -92,7 +93,7 @@ fn check(name: bool, text: &[u8], at: Span, t: Done) -> Done
     ensures { λ r. ⌜ r ≡ cond (isKind name (sliceOf (now (text .entry)) at)) t (lowered t (notKind name)) ⌝ }
 {
     let k = refusal(name);
-    if t.low <= k {
+    if low(t) <= k {
         return t;
     }
     if is_kind(name, text, at) {

@@ -5,6 +5,8 @@ pub use exprs::i64_const;
 use format::Done;
 use format::Walk;
 pub use format::Written;
+use format::copy_words;
+use format::count;
 use format::least;
 use frames::STORE_MOST;
 pub use frames::State;
@@ -28,7 +30,7 @@ ghost use mathlib.Core.Path.{_≡_};
 ghost use Prim.Native.Nat.{_≤_};
 ghost use lib.ListN.{length};
 ghost use Rattle.thriftbell.specs.Add.{outcome, adding};
-ghost use Rattle.thriftbell.specs.Read.{outcome as readOutcome, reading};
+ghost use Rattle.thriftbell.specs.Read.{outcome as readOutcome, reading, PutsWords};
 
 // What adding answers: the state with the frame's room used too; or a number of the table, and then nothing was changed.
 pub enum Added {
@@ -46,8 +48,9 @@ pub fn add(state: State, store: &mut [u8], words: &[u32], text: &[u8]) -> Added
     if store.len() < at {
         return Added::Refused(1);
     }
+    let mut tried = [0u8; 1024];
     let mut n = 0;
-    match items::judge(words, text) {
+    match items::judge(words, text, &mut tried) {
         Judged::Refused(k) => return Added::Refused(k),
         Judged::Length(length) => n = length,
     }
@@ -57,7 +60,7 @@ pub fn add(state: State, store: &mut [u8], words: &[u32], text: &[u8]) -> Added
     }
     let from = at + 5;
     frames::put_head(words[0] as u8, n, &mut store[at..]);
-    items::put_item(words, text, &mut store[from..]);
+    items::put_item(words, text, n, &tried, &mut store[from..]);
     Added::To(State { used: next })
 }
 
@@ -67,23 +70,36 @@ pub enum Taken {
     Refused(u32),
 }
 
+// Writes the record of an item, where there is room: as measuring left it, or by a second walk where that had no room.
+fn put_words(id: u8, front: &[u8], n: usize, tried: &[u32], out: &mut [u32])
+    requires { ⌜ length (now front) ≤ 65536 ⌝ }
+    ensures { λ r. ⌜ PutsWords id (now (front .entry)) n (now (tried .entry)) (now (out .entry)) (now (out .exit)) ⌝ }
+{
+    if n <= tried.len() {
+        copy_words(&tried[0..n], out);
+        return;
+    }
+    items::walk_bytes(id, front, out, Done::new(9));
+}
+
 // Measured first, so that a refusal changes nothing.
 fn read_front(id: u8, front: &[u8], out: &mut [u32]) -> Taken
     requires { ⌜ length (now front) ≤ 65536 ⌝ }
     ensures { λ r. ⌜ readOutcome r (now (out .exit)) ≡ reading id (now (front .entry)) (now (out .entry)) ⌝ }
 {
-    let mut none = [0u32; 1];
-    let Walk::Got(end, s) = items::walk_bytes(id, front, &mut none, Done { n: 0, low: 9 }) else {
+    let mut tried = [0u32; 256];
+    let Walk::Got(end, s) = items::walk_bytes(id, front, &mut tried, Done::new(9)) else {
         return Taken::Refused(11);
     };
-    if 4096 < s.n {
+    let n = count(s);
+    if 4096 < n {
         return Taken::Refused(11);
     }
-    if out.len() < s.n {
+    if out.len() < n {
         return Taken::Refused(10);
     }
-    items::walk_bytes(id, front, out, Done { n: 0, low: 9 });
-    Taken::Took(s.n, end)
+    put_words(id, front, n, &tried, out);
+    Taken::Took(n, end)
 }
 
 // Bytes behind the first 65,536 are not looked at.
