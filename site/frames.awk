@@ -61,14 +61,15 @@ function keep(what, token) {
 }
 
 function cut_word(line, i, n,   from) {
-    for (from = i; i <= n && index(" \t#\"()", substr(line, i, 1)) == 0; i++);
+    for (from = i; i <= n && index(" \t#\"()", substr(line, i, 1)) == 0; i++) continue
     keep("word", substr(line, from, i - from))
     return i
 }
 
-# A string is held as the hexadecimal of its bytes, since not every awk can hold a byte 00.
+# A string is held as the hexadecimal of its bytes, since not every awk can hold a byte 00. One that fits no frame is left at once, since adding to it takes ever longer.
 function cut_string(line, i, n,   c, bytes) {
     for (; i <= n; i++) {
+        if (length(bytes) > 8192) { mistake("a string has over 4096 bytes, more than a line holds: use several statements"); return n + 1 }
         c = substr(line, i, 1)
         if (c == "\"") { keep("string", bytes); return i + 1 }
         if (c != "\\") { bytes = bytes byte_of(c); continue }
@@ -92,8 +93,11 @@ function next_word() {
 }
 
 function shown() {
-    if (at > tokens) return "the line ends"
-    return kind[at] == "string" ? "a string stands" : "'" held[at] "' stands"
+    return kind[at] == "string" ? "a string" : "'" held[at] "'"
+}
+
+function wanted(what) {
+    mistake(what " is wanted, " (at > tokens ? "but the line ends" : "not " shown()))
 }
 
 # Takes a word if it is the next token.
@@ -104,12 +108,12 @@ function took(word) {
 }
 
 function need(word) {
-    if (!took(word)) mistake(shown() " where '" word "' must")
+    if (!took(word)) wanted("'" word "'")
 }
 
 function need_string() {
     if (at <= tokens && kind[at] == "string") return held[at++]
-    mistake(shown() " where a string in quotes must")
+    wanted("a string in quotes")
     return ""
 }
 
@@ -118,7 +122,7 @@ function is_number(word) {
 }
 
 function need_number(low, high,   n) {
-    if (!is_number(next_word())) { mistake(shown() " where a number must"); return 0 }
+    if (!is_number(next_word())) { wanted("a number"); return 0 }
     n = held[at] ~ /^0x/ ? from_hex(substr(held[at], 3)) : held[at] + 0
     if (n < low || n > high) mistake(sprintf("%s is not from %.0f to %.0f", held[at], low, high))
     at++
@@ -136,7 +140,7 @@ function need_u32() { return need_number(0, 4294967295) }
 # Pairs of digits, in one token or several.
 function need_hex(   bytes, from) {
     for (from = at; next_word() ~ /^([0-9A-Fa-f][0-9A-Fa-f])+$/; at++) bytes = bytes toupper(held[at])
-    if (from == at) mistake(shown() " where pairs of hexadecimal digits must")
+    if (from == at) wanted("a run of pairs of hexadecimal digits")
     return bytes
 }
 
@@ -187,7 +191,7 @@ function need_heap(   word) {
     heap_index = 0
     if (word in heap_kind) { at++; return heap_kind[word] }
     if (took("exact")) { heap_index = need_u32(); return 15 }
-    if (!is_number(word)) mistake(shown() " where a heap type must")
+    if (!is_number(word)) wanted("a heap type")
     heap_index = need_u32()
     return 14
 }
@@ -196,7 +200,7 @@ function need_heap(   word) {
 function put_reference(   word, high) {
     word = next_word()
     if (word in short_kind) { at++; put(short_kind[word] + 16); put(0); return }
-    if (!took("ref")) mistake(shown() " where a reference type must")
+    if (!took("ref")) wanted("a reference type")
     if (took("null")) high += 16
     if (took("shared")) high += 32
     put(need_heap() + high)
@@ -206,7 +210,7 @@ function put_reference(   word, high) {
 function put_value_type(   word) {
     word = next_word()
     if (word in value_kind) { at++; put(value_kind[word]); put(0); put(0); return }
-    if (word != "ref" && !(word in short_kind)) mistake(shown() " where a value type must")
+    if (word != "ref" && !(word in short_kind)) wanted("a value type")
     put(5)
     put_reference()
 }
@@ -243,7 +247,7 @@ function need_expression() {
 
 function need_null(   word) {
     word = next_word()
-    if (!(word in heap_kind)) { mistake(shown() " where func, extern or the like must"); return "" }
+    if (!(word in heap_kind)) { wanted("func, extern or another heap type"); return "" }
     at++
     return "D0" heap_byte[heap_kind[word] + 1] "0B"
 }
@@ -253,16 +257,16 @@ function need_contents(   bytes) {
     while (at <= tokens && !wrong) {
         if (kind[at] == "string") bytes = bytes held[at++]
         else if (took("hex")) bytes = bytes need_hex()
-        else if (took("u8")) bytes = bytes need_values(1)
-        else if (took("u16")) bytes = bytes need_values(2)
-        else if (took("u32")) bytes = bytes need_values(4)
-        else mistake(shown() " where a string, u8, u16, u32 or hex must")
+        else if (took("u8")) bytes = bytes need_values(1, 255)
+        else if (took("u16")) bytes = bytes need_values(2, 65535)
+        else if (took("u32")) bytes = bytes need_values(4, 4294967295)
+        else wanted("a string or one of u8, u16, u32, hex")
     }
     return bytes
 }
 
-function need_values(size,   bytes) {
-    do bytes = bytes low_first(need_number(0, 256 ^ size - 1), size)
+function need_values(size, high,   bytes) {
+    do bytes = bytes low_first(need_number(0, high), size)
     while (!wrong && is_number(next_word()))
     return bytes
 }
@@ -281,8 +285,8 @@ function statement(   word) {
     else if (word == "record") add_record()
     else if (word == "finish") finish()
     else if (word == "line") ready_line()
-    else { at--; mistake(shown() " where type, import, table, elements, data, finish, record or line must") }
-    if (at <= tokens) mistake(shown() " behind the end of the statement")
+    else { at--; wanted("one of type, import, table, elements, data, finish, record, line") }
+    if (at <= tokens) mistake(shown() " is left over behind the statement")
 }
 
 # type ( TYPE .. ) -> ( TYPE .. ): a final subtype without supertypes, in no group
@@ -305,7 +309,7 @@ function add_import() {
     else if (took("memory")) { put(2); put_limits() }
     else if (took("global")) { put(3); put_value_type(); put(took("mut")) }
     else if (took("tag")) { put(4); put(need_u32()) }
-    else mistake(shown() " where func, table, memory, global or tag must")
+    else wanted("one of func, table, memory, global, tag")
     add()
 }
 
@@ -332,7 +336,7 @@ function add_elements() {
     else put_placed()
     if (took("functions")) put_functions()
     else if (took("expressions")) put_expressions()
-    else mistake(shown() " where functions or expressions must")
+    else wanted("one of functions, expressions")
     add()
 }
 
@@ -345,8 +349,12 @@ function put_placed(   given) {
     given = took("table")
     put(given)
     put(given ? need_u32() : 0)
-    need("at")
+    need_at()
     put_span(need_expression())
+}
+
+function need_at() {
+    if (!took("at")) wanted("at, or passive,")
 }
 
 function put_functions(   before, n) {
@@ -373,7 +381,7 @@ function add_data() {
     else {
         put(1)
         put(took("memory") ? need_u32() : 0)
-        need("at")
+        need_at()
         put_span(need_expression())
     }
     put_span(need_contents())
@@ -395,14 +403,14 @@ function finish(   order, count, word) {
         if (word in section) { at++; order = order hex[section[word]] }
         else if (took("id")) order = order hex[need_number(0, 255)]
         else if (took("count")) { order = order "0C"; if (is_number(next_word())) count = need_u32() }
-        else mistake(shown() " where types, imports, tables, elements, count, data or id must")
+        else wanted("one of types, imports, tables, elements, count, data, id")
     }
     emit("02" low_first(count, 4) order)
 }
 
 # line DIGITS: a line that is ready, right or not
 function ready_line() {
-    if (next_word() == "") { mistake(shown() " where a ready line must"); return }
+    if (next_word() == "") { wanted("a ready line"); return }
     if (held[at] ~ /^01....0B000000/) segments++
     frame[++frames] = held[at++]
 }
