@@ -202,7 +202,7 @@ function put_reference(   word, high) {
     if (word in short_kind) { at++; put(short_kind[word] + 16); put(0); return }
     if (!took("ref")) wanted("a reference type")
     if (took("null")) high += 16
-    if (took("shared")) high += 32
+    if (took("shared")) { high += 32; if (!(next_word() in heap_kind)) wanted("func, extern or another named heap type") }
     put(need_heap() + high)
     put(heap_index)
 }
@@ -247,7 +247,7 @@ function need_expression() {
 
 function need_null(   word) {
     word = next_word()
-    if (!(word in heap_kind)) { wanted("func, extern or another heap type"); return "" }
+    if (!(word in heap_kind)) { wanted("func, extern or another named heap type"); return "" }
     at++
     return "D0" heap_byte[heap_kind[word] + 1] "0B"
 }
