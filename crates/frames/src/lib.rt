@@ -7,7 +7,7 @@ ghost use Rattle.format.specs.Runs.{run};
 ghost use Rattle.frames.specs.Frames.{idOf, sections, among, valueOf, frame};
 ghost use Rattle.frames.specs.Place.{frameAt};
 ghost use Rattle.frames.specs.Tally.{tallyOf};
-ghost use Rattle.frames.specs.Append.{headBytes, outcome, appending};
+ghost use Rattle.frames.specs.Append.{headBytes};
 
 // The most bytes of a store, and of an item.
 pub const STORE_MOST: usize = 16777216;
@@ -50,14 +50,6 @@ impl SectionId {
     }
 }
 
-// What appending answers: the state with the frame's room used too; or why it was refused, and then nothing was changed.
-pub enum Appended {
-    To(State),
-    Over,
-    Large,
-    Full,
-}
-
 // A frame's head: the section id, and the item's length in four bytes, low first.
 pub fn put_head(id: u8, n: usize, out: &mut [u8]) -> Written
     ensures { λ r. ⌜ Writes (headBytes id n) (now (out .entry)) (now (out .exit)) r ⌝ }
@@ -70,30 +62,6 @@ pub fn put_head(id: u8, n: usize, out: &mut [u8]) -> Written
         (n / 256 / 256 / 256 % 256) as u8,
     ];
     format::copy(&head, out)
-}
-
-pub fn append(state: State, store: &mut [u8], section: SectionId, item: &[u8]) -> Appended
-    ensures { λ r. ⌜ outcome (state .used) r (now (store .exit)) ≡ appending (state .used) (now (store .entry)) section (now (item .entry)) ⌝ }
-{
-    let at = state.used;
-    let n = item.len();
-    if STORE_MOST < store.len() {
-        return Appended::Over;
-    }
-    if store.len() < at {
-        return Appended::Over;
-    }
-    if ITEM_MOST < n {
-        return Appended::Large;
-    }
-    let next = at + n + 5;
-    if store.len() < next {
-        return Appended::Full;
-    }
-    let from = at + 5;
-    put_head(section.id(), n, &mut store[at..]);
-    format::copy(item, &mut store[from..]);
-    Appended::To(State { used: next })
 }
 
 // Whether an id is that of a section that holds items.

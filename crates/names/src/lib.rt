@@ -167,11 +167,28 @@ fn is_name_from(s: &[u8], from: usize) -> bool
     true
 }
 
+// The place behind plain bytes, one at a time.
+fn ones_end(s: &[u8], at: usize) -> usize
+    requires { ⌜ at ≤ length (now s) ⌝ }
+    ensures { λ r. ⌜ (at ≤ r) × (r ≤ length (now (s .entry))) × (isName (drop at (now (s .entry))) ≡ isName (drop r (now (s .entry)))) ⌝ }
+{
+    let mut i = at;
+    while i < s.len() {
+        if 0x7F < s[i] {
+            return i;
+        }
+        i += 1;
+    }
+    i
+}
+
+// Most names are plain.
 pub fn is_name(s: &[u8]) -> bool
     ensures { λ r. ⌜ r ≡ isName (now (s .entry)) ⌝ }
 {
-    if byte(s, 0) < 0x80 {
-        return is_name_from(s, eights_end(s, 0));
+    let at = ones_end(s, eights_end(s, 0));
+    if at == s.len() {
+        return true;
     }
-    is_name_from(s, 0)
+    is_name_from(s, at)
 }
