@@ -1,0 +1,141 @@
+// Answers as numbers of document 01's table, and what they hold into numbers that were lent: 0 beside a refusal.
+use lines::Reply;
+use thriftbell::Added;
+use thriftbell::Finished;
+use thriftbell::ReadI32;
+use thriftbell::ReadI64;
+use thriftbell::ReadU32;
+use thriftbell::ReadU64;
+use thriftbell::Taken;
+use thriftbell::Written;
+ghost use mathlib.Core.Path.{_≡_};
+ghost use mathlib.Core.List.{List};
+ghost use Prim.Native.Nat.{ℕ};
+ghost use Rattle.format.specs.Write.{outcome};
+ghost use Rattle.module.specs.Finish.{outcome as finishOutcome};
+ghost use Rattle.numbers.specs.Answers.{readU32, readU64, readI32, readI64};
+ghost use Rattle.thriftbell.specs.Add.{outcome as addOutcome};
+ghost use Rattle.thriftbell.specs.Read.{outcome as readOutcome};
+ghost use Rattle.lines.specs.Answer.{outcome as lineOutcome};
+ghost use Rattle.capi.specs.Outcomes.{written, valued, added, took, answered, numbered};
+
+pub fn tell_written(w: Written, length: &mut usize) -> u32
+    ensures { λ r. ⌜ ((out : List ℕ) → written r (now (length .exit)) out ≡ outcome w out) ⌝ }
+{
+    *length = 0;
+    let Written::Length(n) = w else {
+        return 10;
+    };
+    *length = n;
+    0
+}
+
+pub fn tell_u32(r: ReadU32, value: &mut u32, end: &mut usize) -> u32
+    ensures { λ a. ⌜ valued a (now (value .exit)) (now (end .exit)) ≡ readU32 r ⌝ }
+{
+    *value = 0;
+    *end = 0;
+    let ReadU32::Value(v, e) = r else {
+        return 11;
+    };
+    *value = v;
+    *end = e;
+    0
+}
+
+pub fn tell_u64(r: ReadU64, value: &mut u64, end: &mut usize) -> u32
+    ensures { λ a. ⌜ valued a (now (value .exit)) (now (end .exit)) ≡ readU64 r ⌝ }
+{
+    *value = 0;
+    *end = 0;
+    let ReadU64::Value(v, e) = r else {
+        return 11;
+    };
+    *value = v;
+    *end = e;
+    0
+}
+
+pub fn tell_i32(r: ReadI32, value: &mut i32, end: &mut usize) -> u32
+    ensures { λ a. ⌜ valued a (now (value .exit)) (now (end .exit)) ≡ readI32 r ⌝ }
+{
+    *value = 0;
+    *end = 0;
+    let ReadI32::Value(v, e) = r else {
+        return 11;
+    };
+    *value = v;
+    *end = e;
+    0
+}
+
+pub fn tell_i64(r: ReadI64, value: &mut i64, end: &mut usize) -> u32
+    ensures { λ a. ⌜ valued a (now (value .exit)) (now (end .exit)) ≡ readI64 r ⌝ }
+{
+    *value = 0;
+    *end = 0;
+    let ReadI64::Value(v, e) = r else {
+        return 11;
+    };
+    *value = v;
+    *end = e;
+    0
+}
+
+// The room used stays where nothing was added.
+pub fn tell_added(a: Added, used: &mut usize) -> u32
+    ensures { λ r. ⌜ ((store : List ℕ) → added r (now (used .exit)) store ≡ addOutcome (now (used .entry)) a store) ⌝ }
+{
+    match a {
+        Added::To(state) => {
+            *used = state.used;
+            0
+        }
+        Added::Refused(k) => k,
+    }
+}
+
+pub fn tell_finished(f: Finished, length: &mut usize) -> u32
+    ensures { λ r. ⌜ ((out : List ℕ) → written r (now (length .exit)) out ≡ finishOutcome f out) ⌝ }
+{
+    *length = 0;
+    match f {
+        Finished::Length(n) => {
+            *length = n;
+            0
+        }
+        Finished::Over => 1,
+        Finished::Order => 8,
+        Finished::NoFrames => 9,
+        Finished::Short => 10,
+    }
+}
+
+pub fn tell_taken(t: Taken, words: &mut usize, taken: &mut usize) -> u32
+    ensures { λ r. ⌜ ((out : List ℕ) → took r (now (words .exit)) (now (taken .exit)) out ≡ readOutcome t out) ⌝ }
+{
+    *words = 0;
+    *taken = 0;
+    match t {
+        Taken::Took(m, n) => {
+            *words = m;
+            *taken = n;
+            0
+        }
+        Taken::Refused(k) => k,
+    }
+}
+
+pub fn tell_reply(a: Reply, used: &mut usize, length: &mut usize) -> u32
+    ensures { λ r. ⌜ ((store buffer out : List ℕ) → answered r (now (used .exit)) (now (length .exit)) store buffer out ≡ numbered (lineOutcome (now (used .entry)) a store buffer out)) ⌝ }
+{
+    *length = 0;
+    match a {
+        Reply::Line(state, n) => {
+            *used = state.used;
+            *length = n;
+            0
+        }
+        Reply::Short => 10,
+    }
+}
