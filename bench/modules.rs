@@ -4,13 +4,16 @@ use std::hint::black_box;
 use std::time::Instant;
 
 extern "C" {
-    fn thriftbell_append(used: *mut usize, store: *mut u8, store_len: usize, id: u8, item: *const u8, item_len: usize) -> u32;
     fn thriftbell_finish(used: usize, store: *const u8, store_len: usize, order: *const u8, order_len: usize, count: u32, out: *mut u8, out_len: usize, length: *mut usize) -> u32;
 }
 
+// A frame as an accepted add leaves it; the items here are of any bytes.
 fn append(used: &mut usize, store: &mut [u8], id: u8, item: &[u8]) {
-    let answer = unsafe { thriftbell_append(used, store.as_mut_ptr(), store.len(), id, item.as_ptr(), item.len()) };
-    assert_eq!(answer, 0);
+    let frame = &mut store[*used..*used + 5 + item.len()];
+    frame[0] = id;
+    frame[1..5].copy_from_slice(&(item.len() as u32).to_le_bytes());
+    frame[5..].copy_from_slice(item);
+    *used += frame.len();
 }
 
 fn finish(used: usize, store: &[u8], order: &[u8], out: &mut [u8]) -> usize {

@@ -23,16 +23,17 @@ macro_rules! number {
     ($name:ident, $t:ty, $bits:expr, $signed:expr, $enc:ident, $dec:ident, $fmt_enc:ident, $fmt_dec:ident) => {
         mod $name {
             use super::*;
-            pub type Write = unsafe extern "C" fn($t, *mut u8, usize) -> usize;
-            pub type Read = unsafe extern "C" fn(*const u8, usize, usize, *mut $t) -> usize;
+            pub type Write = unsafe extern "C" fn($t, *mut u8, usize, *mut usize) -> u32;
+            pub type Read = unsafe extern "C" fn(*const u8, usize, usize, *mut $t, *mut usize) -> u32;
             extern "C" {
-                fn $enc(v: $t, out: *mut u8, len: usize) -> usize;
-                fn $dec(s: *const u8, len: usize, at: usize, value: *mut $t) -> usize;
+                fn $enc(v: $t, out: *mut u8, out_len: usize, length: *mut usize) -> u32;
+                fn $dec(s: *const u8, s_len: usize, at: usize, value: *mut $t, end: *mut usize) -> u32;
             }
             // Refuses where there is no room; unlike the proved one it has then written some of its bytes.
-            unsafe extern "C" fn plain_encode(mut v: $t, out: *mut u8, len: usize) -> usize {
-                let out = std::slice::from_raw_parts_mut(out, len);
+            unsafe extern "C" fn plain_encode(mut v: $t, out: *mut u8, out_len: usize, length: *mut usize) -> u32 {
+                let out = std::slice::from_raw_parts_mut(out, out_len);
                 let mut i = 0;
+                *length = 0;
                 loop {
                     let byte = (v & 0x7F) as u8;
                     v >>= 7;
@@ -42,22 +43,24 @@ macro_rules! number {
                         v == 0
                     };
                     if i >= out.len() {
-                        return 0;
+                        return 10;
                     }
                     if last {
                         out[i] = byte;
-                        return i + 1;
+                        *length = i + 1;
+                        return 0;
                     }
                     out[i] = byte | 0x80;
                     i += 1;
                 }
             }
             // The shortest form only, within the width.
-            unsafe extern "C" fn plain_decode(s: *const u8, len: usize, at: usize, value: *mut $t) -> usize {
-                let s = std::slice::from_raw_parts(s, len);
+            unsafe extern "C" fn plain_decode(s: *const u8, s_len: usize, at: usize, value: *mut $t, end: *mut usize) -> u32 {
+                let s = std::slice::from_raw_parts(s, s_len);
+                (*value, *end) = (0, 0);
                 let (mut v, mut shift, mut i, mut before): ($t, u32, usize, u8) = (0, 0, at, 0);
                 loop {
-                    let Some(&byte) = s.get(i) else { return 0 };
+                    let Some(&byte) = s.get(i) else { return 11 };
                     i += 1;
                     v |= ((byte & 0x7F) as $t) << shift;
                     shift += 7;
@@ -66,49 +69,56 @@ macro_rules! number {
                             let used = $bits + 7 - shift;
                             let spare = if $signed { ((byte as i8) << 1 >> 1) >> (used - 1) } else { (byte >> used) as i8 };
                             if spare != 0 && !($signed && spare == -1) {
-                                return 0;
+                                return 11;
                             }
                         } else if $signed && byte & 0x40 != 0 && shift < $bits {
                             v |= (!0 as $t) << shift;
                         }
                         let padded = byte == 0 && !($signed && before & 0x40 != 0) || $signed && byte == 0x7F && before & 0x40 != 0;
                         if shift > 7 && padded {
-                            return 0;
+                            return 11;
                         }
-                        *value = v;
-                        return i;
+                        (*value, *end) = (v, i);
+                        return 0;
                     }
                     if shift >= $bits {
-                        return 0;
+                        return 11;
                     }
                     before = byte;
                 }
             }
             #[cfg(leb128fmt)]
-            unsafe extern "C" fn fmt_encode(v: $t, out: *mut u8, len: usize) -> usize {
-                let out = std::slice::from_raw_parts_mut(out, len);
+            unsafe extern "C" fn fmt_encode(v: $t, out: *mut u8, out_len: usize, length: *mut usize) -> u32 {
+                let out = std::slice::from_raw_parts_mut(out, out_len);
                 let (bytes, n) = leb128fmt::$fmt_enc(v).unwrap();
                 out[..n].copy_from_slice(&bytes[..n]);
-                n
+                *length = n;
+                0
             }
             #[cfg(leb128fmt)]
-            unsafe extern "C" fn fmt_decode(s: *const u8, len: usize, at: usize, value: *mut $t) -> usize {
-                let s = std::slice::from_raw_parts(s, len);
+            unsafe extern "C" fn fmt_decode(s: *const u8, s_len: usize, at: usize, value: *mut $t, end: *mut usize) -> u32 {
+                let s = std::slice::from_raw_parts(s, s_len);
                 let mut p = at;
+                (*value, *end) = (0, 0);
                 match leb128fmt::$fmt_dec::<$t, $bits>(s, &mut p) {
                     Ok(v) => {
-                        *value = v;
-                        p
+                        (*value, *end) = (v, p);
+                        0
                     }
-                    Err(_) => 0,
+                    Err(_) => 11,
                 }
             }
 
+            // the length or the end, 0 beside a refusal
             fn write(f: Write, v: $t, out: &mut [u8]) -> usize {
-                unsafe { f(v, out.as_mut_ptr(), out.len()) }
+                let mut length = 0;
+                unsafe { f(v, out.as_mut_ptr(), out.len(), &mut length) };
+                length
             }
             fn read(f: Read, s: &[u8], at: usize, value: &mut $t) -> usize {
-                unsafe { f(s.as_ptr(), s.len(), at, value) }
+                let mut end = 0;
+                unsafe { f(s.as_ptr(), s.len(), at, value, &mut end) };
+                end
             }
             // neither the length nor the function is known where these are compiled
             fn write_all(f: Write, vs: &[$t]) {

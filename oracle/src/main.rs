@@ -1,16 +1,9 @@
-// The oracle: wasm-encoder itself answers, as document 01 says.
+// The oracle as a program.
 //   oracle lines        hex lines on standard input, answer lines on standard output
 //   oracle entries      calls that hex lines cannot reach, one a line (src/entries.rs)
 //   oracle make lines SEED, oracle make list SEED, oracle make entries SEED, oracle make reads SEED, oracle make short BYTE, oracle make modules SEED
 //                       a generated input file: hex lines, many of them, or calls; or modules of standard features, in hexadecimal (src/make.rs)
-mod entries;
-mod item;
-mod lines;
-mod make;
-mod reader;
-mod record;
-mod text;
-
+use oracle::{entries, lines, make};
 use std::io::{Read, Write};
 
 fn main() {
