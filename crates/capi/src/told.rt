@@ -22,8 +22,8 @@ ghost use Rattle.capi.specs.Outcomes.{written, valued, added, took, answ
 pub fn tell_written(w: Written, length: &mut usize) -> u32
     ensures { λ r. ⌜ ((out : List ℕ) → written r (now (length .exit)) out ≡ outcome w out) ⌝ }
 {
-    *length = 0;
     let Written::Length(n) = w else {
+        *length = 0;
         return 10;
     };
     *length = n;
@@ -33,9 +33,9 @@ pub fn tell_written(w: Written, length: &mut usize) -> u32
 pub fn tell_u32(r: ReadU32, value: &mut u32, end: &mut usize) -> u32
     ensures { λ a. ⌜ valued a (now (value .exit)) (now (end .exit)) ≡ readU32 r ⌝ }
 {
-    *value = 0;
-    *end = 0;
     let ReadU32::Value(v, e) = r else {
+        *value = 0;
+        *end = 0;
         return 11;
     };
     *value = v;
@@ -46,9 +46,9 @@ pub fn tell_u32(r: ReadU32, value: &mut u32, end: &mut usize) -> u32
 pub fn tell_u64(r: ReadU64, value: &mut u64, end: &mut usize) -> u32
     ensures { λ a. ⌜ valued a (now (value .exit)) (now (end .exit)) ≡ readU64 r ⌝ }
 {
-    *value = 0;
-    *end = 0;
     let ReadU64::Value(v, e) = r else {
+        *value = 0;
+        *end = 0;
         return 11;
     };
     *value = v;
@@ -59,9 +59,9 @@ pub fn tell_u64(r: ReadU64, value: &mut u64, end: &mut usize) -> u32
 pub fn tell_i32(r: ReadI32, value: &mut i32, end: &mut usize) -> u32
     ensures { λ a. ⌜ valued a (now (value .exit)) (now (end .exit)) ≡ readI32 r ⌝ }
 {
-    *value = 0;
-    *end = 0;
     let ReadI32::Value(v, e) = r else {
+        *value = 0;
+        *end = 0;
         return 11;
     };
     *value = v;
@@ -72,9 +72,9 @@ pub fn tell_i32(r: ReadI32, value: &mut i32, end: &mut usize) -> u32
 pub fn tell_i64(r: ReadI64, value: &mut i64, end: &mut usize) -> u32
     ensures { λ a. ⌜ valued a (now (value .exit)) (now (end .exit)) ≡ readI64 r ⌝ }
 {
-    *value = 0;
-    *end = 0;
     let ReadI64::Value(v, e) = r else {
+        *value = 0;
+        *end = 0;
         return 11;
     };
     *value = v;
