@@ -41,7 +41,10 @@ fn hex_lines() {
         let input = oracle::make::file("lines", seed);
         let right = oracle::lines::answers(&input);
         let mut lines: Vec<&[u8]> = input.split(|&b| b == b'\n').collect();
-        assert_eq!(lines.pop(), Some(&b""[..]));
+        // a last line may lack its line feed, and nothing after the last one is no line
+        if lines.last().is_some_and(|l| l.is_empty()) {
+            lines.pop();
+        }
         assert_eq!(lines.len(), right.lines().count());
         for (line, right) in lines.iter().zip(right.lines()) {
             let n = answer_line(line, &mut used, &mut store, &mut buffer, &mut out).unwrap();
