@@ -92,16 +92,16 @@ fn c_entries(text: &str) -> Vec<String> {
         .collect()
 }
 
+fn rust_entry(declaration: &str) -> String {
+    let (name, signature) = declaration.split_once('(').unwrap_or((declaration, ") -> ?"));
+    let (parameters, result) = signature.rsplit_once(") -> ").unwrap_or((signature, "()"));
+    entry(name, parts(parameters).map(words).collect(), result)
+}
+
 fn rust_entries(text: &str) -> Vec<String> {
     let block = between(text, "extern \"C\" {\n", "\n    }\n").expect("an extern block").0;
     let declarations = block.split(';').map(str::trim).filter(|d| !d.is_empty());
-    declarations
-        .map(|d| {
-            let (name, signature) = d.strip_prefix("pub fn ").and_then(|d| d.split_once('(')).unwrap_or((d, ") -> ?"));
-            let (parameters, result) = signature.rsplit_once(") -> ").unwrap_or((signature, "()"));
-            entry(name, parts(parameters).map(words).collect(), result)
-        })
-        .collect()
+    declarations.map(|d| rust_entry(d.strip_prefix("pub fn ").unwrap_or(d))).collect()
 }
 
 // The first entry that is not declared as it is, if there is one.
@@ -125,44 +125,66 @@ fn declarations_agree() {
     assert_eq!(difference(&t), None);
 }
 
-// Wrong and missing ones are seen, whichever of the three has them.
+// The benchmarks declare what they call themselves; those of bench/numbers.rs, which a macro makes, are not seen here.
+#[test]
+fn benchmarks_agree() {
+    let right = rattle_entries(&texts().rattle);
+    let mut count = 0;
+    for name in std::fs::read_dir(format!("{ROOT}/bench")).unwrap().map(|f| f.unwrap().file_name().into_string().unwrap()).filter(|n| n.ends_with(".rs")) {
+        for line in file(&format!("bench/{name}")).lines().map(str::trim).filter(|l| l.starts_with("fn thriftbell_")) {
+            let found = rust_entry(line.strip_prefix("fn ").unwrap().trim_end_matches(';'));
+            assert!(right.contains(&found), "bench/{name}: {found}");
+            count += 1;
+        }
+    }
+    assert!(count >= 5, "a declaration was not read");
+}
+
+// Edits that make a declaration wrong or take it away.
+type Edit = (&'static str, &'static str);
+
+const IN_C: &[Edit] = &[
+    ("uint32_t thriftbell_check_expr(const uint8_t *s, size_t s_len);\n", ""),
+    ("thriftbell_is_name(const uint8_t *s", "thriftbell_is_name(uint8_t *s"),
+    ("thriftbell_decode_i32(const uint8_t *s, size_t s_len, size_t at, int32_t *value", "thriftbell_decode_i32(const uint8_t *s, size_t s_len, size_t at, uint32_t *value"),
+    ("thriftbell_finish(size_t used", "thriftbell_finish(size_t *used"),
+    ("size_t *words, size_t *taken", "size_t *taken, size_t *words"),
+    ("bool thriftbell_is_name", "uint32_t thriftbell_is_name"),
+    ("thriftbell_encode_u64(uint64_t v, uint8_t *out, size_t out_len", "thriftbell_encode_u64(uint64_t v, uint8_t *out"),
+];
+
+const IN_RUST: &[Edit] = &[
+    ("        pub fn thriftbell_encoding_size(n: u32) -> usize;\n", ""),
+    ("pub fn thriftbell_encoding_size(n: u32) -> usize", "pub fn thriftbell_encoding_size(n: u32) -> u32"),
+    ("thriftbell_add(used: *mut usize, store: *mut u8", "thriftbell_add(used: *mut usize, store: *const u8"),
+    ("thriftbell_i32_const(v: i32", "thriftbell_i32_const(v: i64"),
+    ("pub fn thriftbell_finish(", "pub fn thriftbell_end("),
+    ("order: *const u8, order_len: usize, count: u32", "count: u32, order: *const u8, order_len: usize"),
+];
+
+const IN_RATTLE: &[Edit] = &[
+    ("pub extern \"C\" fn thriftbell_encoding_size(n: u32)", "pub extern \"C\" fn thriftbell_encoding_size(n: u64)"),
+    ("    out: &mut [u32],", "    out: &[u32],"),
+    ("    count: u32,\n", ""),
+];
+
+fn edited(text: &str, (old, new): &Edit) -> String {
+    assert_eq!(text.matches(old).count(), 1, "{old}");
+    text.replacen(old, new, 1)
+}
+
+// Each is seen, and in the file that has it.
 #[test]
 fn wrong_declarations_are_seen() {
-    let c = [
-        ("uint32_t thriftbell_check_expr(const uint8_t *s, size_t s_len);\n", ""),
-        ("thriftbell_is_name(const uint8_t *s", "thriftbell_is_name(uint8_t *s"),
-        ("thriftbell_decode_i32(const uint8_t *s, size_t s_len, size_t at, int32_t *value", "thriftbell_decode_i32(const uint8_t *s, size_t s_len, size_t at, uint32_t *value"),
-        ("thriftbell_finish(size_t used", "thriftbell_finish(size_t *used"),
-        ("size_t *words, size_t *taken", "size_t *taken, size_t *words"),
-        ("bool thriftbell_is_name", "uint32_t thriftbell_is_name"),
-        ("thriftbell_encode_u64(uint64_t v, uint8_t *out, size_t out_len", "thriftbell_encode_u64(uint64_t v, uint8_t *out"),
-    ];
-    let rust = [
-        ("        pub fn thriftbell_encoding_size(n: u32) -> usize;\n", ""),
-        ("pub fn thriftbell_encoding_size(n: u32) -> usize", "pub fn thriftbell_encoding_size(n: u32) -> u32"),
-        ("thriftbell_add(used: *mut usize, store: *mut u8", "thriftbell_add(used: *mut usize, store: *const u8"),
-        ("thriftbell_i32_const(v: i32", "thriftbell_i32_const(v: i64"),
-        ("pub fn thriftbell_finish(", "pub fn thriftbell_end("),
-        ("order: *const u8, order_len: usize, count: u32", "count: u32, order: *const u8, order_len: usize"),
-    ];
-    let rattle = [
-        ("pub extern \"C\" fn thriftbell_encoding_size(n: u32)", "pub extern \"C\" fn thriftbell_encoding_size(n: u64)"),
-        ("    out: &mut [u32],", "    out: &[u32],"),
-        ("    count: u32,\n", ""),
-    ];
-    let edited = |text: &str, (old, new): (&str, &str)| {
-        assert_eq!(text.matches(old).count(), 1, "{old}");
-        text.replacen(old, new, 1)
-    };
-    for edit in c {
+    for edit in IN_C {
         let t = texts();
         assert!(difference(&Texts { c: edited(&t.c, edit), ..t }).is_some_and(|d| d.starts_with("c/")), "{edit:?}");
     }
-    for edit in rust {
+    for edit in IN_RUST {
         let t = texts();
         assert!(difference(&Texts { rust: edited(&t.rust, edit), ..t }).is_some_and(|d| d.starts_with("rust/")), "{edit:?}");
     }
-    for edit in rattle {
+    for edit in IN_RATTLE {
         let t = texts();
         assert!(difference(&Texts { rattle: edited(&t.rattle, edit), ..t }).is_some(), "{edit:?}");
     }
