@@ -125,21 +125,6 @@ fn declarations_agree() {
     assert_eq!(difference(&t), None);
 }
 
-// The benchmarks declare what they call themselves; those of bench/numbers.rs, which a macro makes, are not seen here.
-#[test]
-fn benchmarks_agree() {
-    let right = rattle_entries(&texts().rattle);
-    let mut count = 0;
-    for name in std::fs::read_dir(format!("{ROOT}/bench")).unwrap().map(|f| f.unwrap().file_name().into_string().unwrap()).filter(|n| n.ends_with(".rs")) {
-        for line in file(&format!("bench/{name}")).lines().map(str::trim).filter(|l| l.starts_with("fn thriftbell_")) {
-            let found = rust_entry(line.strip_prefix("fn ").unwrap().trim_end_matches(';'));
-            assert!(right.contains(&found), "bench/{name}: {found}");
-            count += 1;
-        }
-    }
-    assert!(count >= 5, "a declaration was not read");
-}
-
 // Edits that make a declaration wrong or take it away.
 type Edit = (&'static str, &'static str);
 
