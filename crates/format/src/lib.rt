@@ -145,3 +145,11 @@ pub fn append_run(b: &[u8], out: &mut [u8], s: Done) -> Done
     copy(b, &mut out[at..]);
     grown(s, b.len())
 }
+
+pub fn append_words(w: &[u32], out: &mut [u32], s: Done) -> Done
+    ensures { λ r. ⌜ Adds (now (w .entry)) 9 (now (out .entry)) s (now (out .exit)) r ⌝ }
+{
+    let at = least(count(s), out.len());
+    copy_words(w, &mut out[at..]);
+    grown(s, w.len())
+}

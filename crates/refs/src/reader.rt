@@ -1,7 +1,7 @@
 // Reading references: what begins at a place of some bytes, and its words.
 use format::Done;
 use format::Walk;
-use format::append_word;
+use format::append_words;
 use numbers::ReadU32;
 use types::AbstractHeapType;
 use types::AbstractRead;
@@ -142,8 +142,7 @@ pub fn append_ref_words(r: RefType, out: &mut [u32], s: Done) -> Done
     ensures { λ d. ⌜ Adds (refWords .print r) 9 (now (out .entry)) s (now (out .exit)) d ⌝ }
 {
     let heap = r.heap_type;
-    let t = append_word(head(r), out, s);
-    append_word(heap.index(), out, t)
+    append_words(&[head(r), heap.index()], out, s)
 }
 
 // Reads the reference at a place and appends its two words.

@@ -3,7 +3,7 @@ use crate::Span;
 use crate::TextAt;
 use exprs::ExprEnd;
 use format::Done;
-use format::append_word;
+use format::append_words;
 use numbers::ReadU32;
 ghost use mathlib.Core.Path.{_≡_};
 ghost use Prim.Native.Nat.{_≤_};
@@ -52,6 +52,5 @@ pub fn find_expr(bytes: &[u8], at: usize) -> TextAt
 pub fn append_span(v: Span, out: &mut [u32], s: Done) -> Done
     ensures { λ r. ⌜ Adds (span .print v) 9 (now (out .entry)) s (now (out .exit)) r ⌝ }
 {
-    let t = append_word(v.start, out, s);
-    append_word(v.len, out, t)
+    append_words(&[v.start, v.len], out, s)
 }

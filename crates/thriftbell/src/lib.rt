@@ -38,7 +38,8 @@ pub enum Added {
     Refused(u32),
 }
 
-pub fn add(state: State, store: &mut [u8], words: &[u32], text: &[u8]) -> Added
+// What is judged is tried in the room that is lent for it, and put behind the room used once it is accepted.
+fn add_tried(state: State, store: &mut [u8], words: &[u32], text: &[u8], tried: &mut [u8]) -> Added
     ensures { λ r. ⌜ outcome (state .used) r (now (store .exit)) ≡ adding (state .used) (now (store .entry)) (now (words .entry)) (now (text .entry)) ⌝ }
 {
     let at = state.used;
@@ -48,9 +49,8 @@ pub fn add(state: State, store: &mut [u8], words: &[u32], text: &[u8]) -> Added
     if store.len() < at {
         return Added::Refused(1);
     }
-    let mut tried = [0u8; 1024];
     let mut n = 0;
-    match items::judge(words, text, &mut tried) {
+    match items::judge(words, text, tried) {
         Judged::Refused(k) => return Added::Refused(k),
         Judged::Length(length) => n = length,
     }
@@ -60,8 +60,20 @@ pub fn add(state: State, store: &mut [u8], words: &[u32], text: &[u8]) -> Added
     }
     let from = at + 5;
     frames::put_head(words[0] as u8, n, &mut store[at..]);
-    items::put_item(words, text, n, &tried, &mut store[from..]);
+    items::put_item(words, text, n, tried, &mut store[from..]);
     Added::To(State { used: next })
+}
+
+// Clearing more room takes longer than it saves where a record is short.
+pub fn add(state: State, store: &mut [u8], words: &[u32], text: &[u8]) -> Added
+    ensures { λ r. ⌜ outcome (state .used) r (now (store .exit)) ≡ adding (state .used) (now (store .entry)) (now (words .entry)) (now (text .entry)) ⌝ }
+{
+    if words.len() <= 64 {
+        let mut tried = [0u8; 512];
+        return add_tried(state, store, words, text, &mut tried);
+    }
+    let mut tried = [0u8; 4096];
+    add_tried(state, store, words, text, &mut tried)
 }
 
 // What reading answers: how many words it wrote and bytes it took; or a number of the table, and then nothing was changed.
@@ -87,7 +99,7 @@ fn read_front(id: u8, front: &[u8], out: &mut [u32]) -> Taken
     requires { ⌜ length (now front) ≤ 65536 ⌝ }
     ensures { λ r. ⌜ readOutcome r (now (out .exit)) ≡ reading id (now (front .entry)) (now (out .entry)) ⌝ }
 {
-    let mut tried = [0u32; 256];
+    let mut tried = [0u32; 512];
     let Walk::Got(end, s) = items::walk_bytes(id, front, &mut tried, Done::new(9)) else {
         return Taken::Refused(11);
     };

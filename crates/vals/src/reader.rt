@@ -2,6 +2,7 @@
 use format::Done;
 use format::Walk;
 use format::append_word;
+use format::append_words;
 use refs::read_ref;
 ghost use mathlib.Core.Path.{_≡_};
 ghost use mathlib.Core.List.{[], _∷_};
@@ -15,9 +16,7 @@ ghost use Rattle.types.specs.Answers.{codeOr};
 fn append_kind(k: u32, out: &mut [u32], s: Done) -> Done
     ensures { λ r. ⌜ Adds (k ∷ 0 ∷ 0 ∷ []) 9 (now (out .entry)) s (now (out .exit)) r ⌝ }
 {
-    let t = append_word(k, out, s);
-    let u = append_word(0, out, t);
-    append_word(0, out, u)
+    append_words(&[k, 0, 0], out, s)
 }
 
 // The kind of a number or vector type by its byte; 5 where there is none.
