@@ -54,16 +54,7 @@ fn walk_import(words: &[u32], at: usize, text: &[u8], out: &mut [u8], s: Done) -
     walk_entity(words, p, out, t)
 }
 
-fn walk_member(m: Member, words: &[u32], at: usize, text: &[u8], out: &mut [u8], s: Done) -> Walk
-    ensures { λ r. ⌜ Writing (member m) (now (text .entry)) (now (words .entry)) at (now (out .entry)) s (now (out .exit)) r ⌝ }
-{
-    match m {
-        Member::Import => walk_import(words, at, text, out, s),
-        Member::Name => walk_name(words, at, text, out, s),
-    }
-}
-
-// n members.
+// n members, a name each and, where they are imports, its entity: by two walks here and not by one of both, whose answer would be copied once more.
 fn walk_members(
     m: Member,
     n: usize,
@@ -80,12 +71,23 @@ fn walk_members(
     let mut p = at;
     let mut left = n;
     while 0 < left {
-        let Walk::Got(q, u) = walk_member(m, words, p, text, out, t) else {
+        let Walk::Got(q, u) = walk_name(words, p, text, out, t) else {
             return Walk::No;
         };
-        p = q;
-        t = u;
         left = left - 1;
+        match m {
+            Member::Import => {
+                let Walk::Got(r, v) = walk_entity(words, q, out, u) else {
+                    return Walk::No;
+                };
+                p = r;
+                t = v;
+            }
+            Member::Name => {
+                p = q;
+                t = u;
+            }
+        }
     }
     Walk::Got(p, t)
 }
