@@ -94,13 +94,12 @@ fn put_words(id: u8, front: &[u8], n: usize, tried: &[u32], out: &mut [u32])
     items::walk_bytes(id, front, out, Done::new(9));
 }
 
-// Measured first, so that a refusal changes nothing.
-fn read_front(id: u8, front: &[u8], out: &mut [u32]) -> Taken
+// Measured first, in the room that is lent for it, so that a refusal changes nothing.
+fn read_tried(id: u8, front: &[u8], tried: &mut [u32], out: &mut [u32]) -> Taken
     requires { ⌜ length (now front) ≤ 65536 ⌝ }
     ensures { λ r. ⌜ readOutcome r (now (out .exit)) ≡ reading id (now (front .entry)) (now (out .entry)) ⌝ }
 {
-    let mut tried = [0u32; 512];
-    let Walk::Got(end, s) = items::walk_bytes(id, front, &mut tried, Done::new(9)) else {
+    let Walk::Got(end, s) = items::walk_bytes(id, front, tried, Done::new(9)) else {
         return Taken::Refused(11);
     };
     let n = count(s);
@@ -110,8 +109,21 @@ fn read_front(id: u8, front: &[u8], out: &mut [u32]) -> Taken
     if out.len() < n {
         return Taken::Refused(10);
     }
-    put_words(id, front, n, &tried, out);
+    put_words(id, front, n, tried, out);
     Taken::Took(n, end)
+}
+
+// The records of tables and data have few words, and clearing room for more takes longer than reading them.
+fn read_front(id: u8, front: &[u8], out: &mut [u32]) -> Taken
+    requires { ⌜ length (now front) ≤ 65536 ⌝ }
+    ensures { λ r. ⌜ readOutcome r (now (out .exit)) ≡ reading id (now (front .entry)) (now (out .entry)) ⌝ }
+{
+    if id == 4 || id == 11 {
+        let mut tried = [0u32; 16];
+        return read_tried(id, front, &mut tried, out);
+    }
+    let mut tried = [0u32; 512];
+    read_tried(id, front, &mut tried, out)
 }
 
 // Bytes behind the first 65,536 are not looked at.
