@@ -29,6 +29,18 @@ pub fn add(records: &[Record], store: &mut Vec<u8>) {
     }
 }
 
+/// The same frames without the refusals: wasm-encoder, item by item, with no check but what its types need.
+pub fn frame(records: &[Record], store: &mut Vec<u8>) {
+    store.clear();
+    for r in records {
+        let record = record::parse(&r.words).unwrap();
+        let item = encode(&record, &r.text);
+        store.push(record.section());
+        store.extend((item.len() as u32).to_le_bytes());
+        store.extend(item);
+    }
+}
+
 /// wasm-encoder's section builders alone: nothing is judged but what the builders' types need, and no item stands by itself.
 pub fn build(records: &[Record]) -> Sections {
     let mut sections = Sections::default();
