@@ -3,9 +3,8 @@ use mathlib.Core.Path.{_≡_, refl, sym, ap, _∙_}
 use mathlib.Core.Bool.{true, false}
 use mathlib.Core.Option.{Option, none, some, Option·map}
 use mathlib.Core.List.{List, _∷_}
-use Prim.Native.Nat.{ℕ, _+_, _-_, _≤_, _<_}
+use Prim.Native.Nat.{ℕ, zero, suc, _+_, _-_, _≤_, _<_}
 use native.Mathlib.Omega.{arith}
-use lib.Bits.{bitOr}
 use lib.ListN.{length, getD, drop, length-append, length-drop}
 use Rattle.format.specs.Parsed.{Parsed, fail, got}
 use Rattle.format.specs.Read.{rest-at, drop-end}
@@ -14,7 +13,8 @@ use Rattle.names.specs.Utf8.{utf8}
 use Rattle.names.specs.Char.{char, char-some}
 use Rattle.names.specs.Name.{isName, found}
 use Rattle.names.specs.Place.{endOf}
-use Rattle.names.proofs.Reading.{plain, or-left, or-right}
+use Rattle.plain.specs.Plain.{Plain}
+use Rattle.names.proofs.Reading.{plain}
 
 -- a character at a place takes a byte at least
 taken : (s : List ℕ) (at c : ℕ) (r : List ℕ) → char .parse (drop at s) ≡ got c r → length r < length s - at
@@ -43,20 +43,12 @@ pass s at c end h e = ap found (run-more char char-some (drop at s) c (drop end 
 pass-plain : (s : List ℕ) (i j : ℕ) → j ≡ i + 1 → i < length s → getD s i 0 < 0x80 → isName (drop i s) ≡ isName (drop j s)
 pass-plain s i j e h k = pass s i (getD s i 0) j h (plain s i h k ∙ ap (λ (n : ℕ). got (getD s i 0) (drop n s)) (sym e))
 
--- four plain ones, by all their bits
-pub pass-four : (s : List ℕ) (i : ℕ) → i + 4 ≤ length s
-    → bitOr (bitOr (getD s i 0) (getD s (i + 1) 0)) (bitOr (getD s (i + 2) 0) (getD s (i + 3) 0)) < 0x80 → isName (drop i s) ≡ isName (drop (i + 4) s)
-pass-four s i h k =
-    let a = getD s i 0 in
-    let b = getD s (i + 1) 0 in
-    let c = getD s (i + 2) 0 in
-    let d = getD s (i + 3) 0 in
-    let l = or-left (bitOr a b) (bitOr c d) in
-    let r = or-right (bitOr a b) (bitOr c d) in
-    pass-plain s i (i + 1) refl (omega arith) (omega (arith, or-left a b))
-    ∙ pass-plain s (i + 1) (i + 2) (omega arith) (omega arith) (omega (arith, or-right a b))
-    ∙ pass-plain s (i + 2) (i + 3) (omega arith) (omega arith) (omega (arith, or-left c d))
-    ∙ pass-plain s (i + 3) (i + 4) (omega arith) (omega arith) (omega (arith, or-right c d))
+-- several plain ones
+pub pass-plains : (s : List ℕ) (i n : ℕ) → i + n ≤ length s → Plain s i (i + n) → isName (drop i s) ≡ isName (drop (i + n) s)
+pass-plains s i zero h p = let e : i ≡ i + 0 = omega arith in ap (λ (k : ℕ). isName (drop k s)) e
+pass-plains s i (suc n) h p =
+    let e : i + n + 1 ≡ i + suc n = omega arith in
+    pass-plains s i n (omega arith) (λ k l m. p k l (omega arith)) ∙ pass-plain s (i + n) (i + suc n) (sym e) (omega arith) (p (i + n) (omega arith) (omega arith))
 
 module _ {s : List ℕ} {from at : ℕ} (n : Named s from at) (h : at < length s) where
   pub named-plain : getD s at 0 < 0x80 → Named s from (at + 1)

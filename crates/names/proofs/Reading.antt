@@ -6,7 +6,7 @@ use mathlib.Core.List.{List}
 use Prim.Native.Nat.{ℕ, _+_, _-_, _*_, _≤_, _<_, _^_}
 use native.Mathlib.Omega.{arith}
 use lib.Dec.{leb, ltb, eqb}
-use lib.Bits.{bitOr, bitXor, or-add-and, and-le-l, and-le-r, xor-block, xor-zero-r}
+use lib.Bits.{bitXor, xor-block, xor-zero-r}
 use lib.ListN.{length, getD, drop, List·getD-eq-default}
 use borrow.Author.Tests.{lt-ltb, le-ltb, ltb-true, ltb-false, le-leb, lt-leb, eqb-true, eqb-false, ne-eqb}
 use Rattle.format.specs.Parsed.{fail, got}
@@ -45,12 +45,6 @@ pub told-second : {r t : Bool} {x y b z : ℕ} → r ≡ between (lowest b) (pas
 told-second {y = y} {b = b} e w q p = ap (λ (k : ℕ). between (lowest k) (past k) y) w ∙ sym (ap (λ (k : ℕ). between (lowest b) (past b) k) q) ∙ sym e ∙ p
 
 -- ---- several bytes at once
-
-pub or-left : (a b : ℕ) → a ≤ bitOr a b
-or-left a b = omega (arith, or-add-and a b, and-le-r a b)
-
-pub or-right : (a b : ℕ) → b ≤ bitOr a b
-or-right a b = omega (arith, or-add-and a b, and-le-l a b)
 
 -- with the highest bit turned over
 turn-high : (b : ℕ) → 0x80 ≤ b → b < 256 → bitXor b 0x80 ≡ b - 0x80

@@ -3,3 +3,4 @@ pub mod Utf8
 pub mod Char
 pub mod Name
 pub mod Place
+pub mod Plain

@@ -1,4 +1,6 @@
 // Names: whether bytes are UTF-8, in one pass over their characters.
+use plain::eight_of;
+use plain::is_plain;
 ghost use mathlib.Core.Path.{_≡_};
 ghost use Prim.Native.Nat.{_+_, _≤_, _<_};
 ghost use lib.Dec.{ltb};
@@ -120,14 +122,6 @@ fn wide_end(s: &[u8], at: usize, b: u8) -> usize
     four_end(s, at, b)
 }
 
-// Four bytes in one: below 0x80 where each is.
-fn four_of(s: &[u8], i: usize) -> u8
-    requires { ⌜ i + 4 ≤ length (now s) ⌝ }
-    ensures { λ r. ⌜ (r < 0x80 → isName (drop i (now (s .entry))) ≡ isName (drop (i + 4) (now (s .entry)))) ⌝ }
-{
-    (s[i] | s[i + 1]) | (s[i + 2] | s[i + 3])
-}
-
 // The place behind plain bytes, eight at a time.
 fn eights_end(s: &[u8], at: usize) -> usize
     requires { ⌜ at ≤ length (now s) ⌝ }
@@ -135,7 +129,7 @@ fn eights_end(s: &[u8], at: usize) -> usize
 {
     let mut i = at;
     while 8 <= s.len() - i {
-        if 0x7F < (four_of(s, i) | four_of(s, i + 4)) {
+        if 0x7F < eight_of(s, i) {
             return i;
         }
         i += 8;
@@ -143,12 +137,11 @@ fn eights_end(s: &[u8], at: usize) -> usize
     i
 }
 
-// Whether what stands from a place on is a name's bytes. Eights are tried behind a plain byte at each eighth place, so that no byte is looked at thrice.
-fn is_name_from(s: &[u8], from: usize) -> bool
-    requires { ⌜ from ≤ length (now s) ⌝ }
-    ensures { λ r. ⌜ r ≡ isName (drop from (now (s .entry))) ⌝ }
+// One character after the other. Eights are tried behind a plain byte at each eighth place, so that no byte is looked at thrice.
+fn is_mixed_name(s: &[u8]) -> bool
+    ensures { λ r. ⌜ r ≡ isName (now (s .entry)) ⌝ }
 {
-    let mut at = from;
+    let mut at: usize = 0;
     while at < s.len() {
         let b = s[at];
         if 0x7F < b {
@@ -167,28 +160,14 @@ fn is_name_from(s: &[u8], from: usize) -> bool
     true
 }
 
-// The place behind plain bytes, one at a time.
-fn ones_end(s: &[u8], at: usize) -> usize
-    requires { ⌜ at ≤ length (now s) ⌝ }
-    ensures { λ r. ⌜ (at ≤ r) × (r ≤ length (now (s .entry))) × (isName (drop at (now (s .entry))) ≡ isName (drop r (now (s .entry)))) ⌝ }
-{
-    let mut i = at;
-    while i < s.len() {
-        if 0x7F < s[i] {
-            return i;
-        }
-        i += 1;
-    }
-    i
-}
-
-// Most names are plain.
+// Most names are plain, but for those that begin with a wide character.
 pub fn is_name(s: &[u8]) -> bool
     ensures { λ r. ⌜ r ≡ isName (now (s .entry)) ⌝ }
 {
-    let at = ones_end(s, eights_end(s, 0));
-    if at == s.len() {
-        return true;
+    if byte(s, 0) < 0x80 {
+        if is_plain(s) {
+            return true;
+        }
     }
-    is_name_from(s, at)
+    is_mixed_name(s)
 }

@@ -1,12 +1,12 @@
 -- `names::eights_end` meets its contract. Assumes nothing.
 use denote.Ref.{now}
-use mathlib.Core.Path.{_≡_, refl, ap, _∙_}
+use mathlib.Core.Path.{_≡_, refl, _∙_}
 use native.Mathlib.Omega.{arith}
-use Prim.Native.Nat.{ℕ, _+_, _-_, _≤_, _<_, _^_}
+use Prim.Native.Nat.{_+_, _-_, _≤_, _<_, _^_}
 use lib.ListN.{length, drop}
 use borrow.Author.Needs.{needs}
 use Rattle.names.specs.Name.{isName}
-use Rattle.names.proofs.Reading.{or-left, or-right}
+use Rattle.names.proofs.Naming.{pass-plains}
 use Rattle.names.proofs.eights_end.Statement.{statement}
 use Rattle.names.proofs.eights_end.Tie as tie
 
@@ -22,23 +22,12 @@ room c = omega (arith, c .loop-test .taken, c .before .loop .inv .1)
 slice-fits : (c : tie.In-loop Inv-loop μ-loop) → length (now (c .before .before .before .args .s)) < 2 ^ 63
 slice-fits c = search needs
 
-add-i : tie.Need-add-i Inv-loop μ-loop
-add-i c = omega (arith, room (c .before .before .before), slice-fits (c .before .before .before))
-
 loop-again : tie.Need-loop-again Inv-loop μ-loop
 loop-again c =
-    let l = c .before .before .before .before .loop in
-    let s = now (c .before .before .before .before .before .before .args .s) in
-    let a = c .before .before .four-of .result in
-    let b = c .before .four-of2 .result in
-    let e : l .i + 4 + 4 ≡ l .i + 8 = omega arith in (
-      omega (arith, l .inv .0),
-      omega (arith, room (c .before .before .before)),
-      l .inv .2
-          ∙ c .before .before .four-of .ensures (omega (arith, c .if1 .left, or-left a b))
-          ∙ c .before .four-of2 .ensures (omega (arith, c .if1 .left, or-right a b))
-          ∙ ap (λ (i : ℕ). isName (drop i s)) e,
-    )
+    let l = c .before .before .before .loop in
+    let s = now (c .before .before .before .before .before .args .s) in
+    let h = room (c .before .before) in
+    (omega (arith, l .inv .0), h, l .inv .2 ∙ pass-plains s (l .i) 8 h (c .before .eight-of .ensures .told (omega (arith, c .if1 .left))))
 
 pub eights-end-spec : {M : Type 1} → statement M
 eights-end-spec =
@@ -48,11 +37,9 @@ eights-end-spec =
     μ-loop
     (λ c. (omega arith, c .before .pre, refl))
     (λ c. c .loop .inv .1)
-    (λ c κs. omega (arith, room c))
-    (λ c. omega (arith, room (c .before), slice-fits (c .before)))
-    (λ c κs. omega (arith, room (c .before)))
-    (λ c. c .before .before .before .before .loop .inv)
-    add-i
-    (λ c. omega (arith, room (c .before .before .before)))
+    (λ c κs. room c)
+    (λ c. c .before .before .before .loop .inv)
+    (λ c. omega (arith, room (c .before .before), slice-fits (c .before .before)))
+    (λ c. omega (arith, room (c .before .before)))
     loop-again
     (λ c. c .before .loop .inv))

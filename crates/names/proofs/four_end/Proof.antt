@@ -4,7 +4,8 @@ use native.Mathlib.Omega.{arith}
 use mathlib.Core.Path.{refl}
 use lib.Bits.{bitOr, or-lt}
 use borrow.Author.Needs.{needs}
-use Rattle.names.proofs.Reading.{or-left, or-right, more-of, less-of, told-second, four-top, four-yes, four-second, four-none, four-cut}
+use Rattle.plain.proofs.Blocks.{or-left, or-right}
+use Rattle.names.proofs.Reading.{more-of, less-of, told-second, four-top, four-yes, four-second, four-none, four-cut}
 use Rattle.names.proofs.four_end.Statement.{statement}
 use Rattle.names.proofs.four_end.Tie as tie
 

@@ -4,7 +4,8 @@ use native.Mathlib.Omega.{arith}
 use mathlib.Core.Path.{refl}
 use lib.Bits.{or-lt}
 use borrow.Author.Needs.{needs}
-use Rattle.names.proofs.Reading.{or-right, more-of, less-of, told-second, three-yes, three-second, three-none, three-cut}
+use Rattle.plain.proofs.Blocks.{or-right}
+use Rattle.names.proofs.Reading.{more-of, less-of, told-second, three-yes, three-second, three-none, three-cut}
 use Rattle.names.proofs.three_end.Statement.{statement}
 use Rattle.names.proofs.three_end.Tie as tie
 

@@ -1,4 +1,4 @@
--- `names::is_name_from` meets its contract: one character after the other, plain ones eight at a time. Assumes nothing.
+-- `names::is_mixed_name` meets its contract: one character after the other, plain ones eight at a time. Assumes nothing.
 use denote.Ref.{now}
 use mathlib.Core.Path.{_≡_, refl, sym, ap, _∙_}
 use native.Mathlib.Omega.{arith}
@@ -9,14 +9,14 @@ use Rattle.names.specs.Char.{char}
 use Rattle.names.specs.Place.{endOf}
 use Rattle.names.proofs.Reading.{is-wide}
 use Rattle.names.proofs.Naming.{Named, named-none, named-plain, named-stop, named-done, end-none, end-some, Ends}
-use Rattle.names.proofs.is_name_from.Statement.{statement}
-use Rattle.names.proofs.is_name_from.Tie as tie
+use Rattle.names.proofs.is_mixed_name.Statement.{statement}
+use Rattle.names.proofs.is_mixed_name.Tie as tie
 
 abbrev Inv-loop : tie.InvT-loop
-Inv-loop s from at₀ at = Named s from at
+Inv-loop s at₀ at = Named s 0 at
 
 abbrev μ-loop : tie.MeasureT-loop
-μ-loop s from at₀ at = length s - at
+μ-loop s at₀ at = length s - at
 
 -- where the character ends
 end : (k : tie.After-wide-end Inv-loop μ-loop)
@@ -35,7 +35,7 @@ returns c =
     named-stop l h (end-none l h (end (c .before)) (c .if2 .taken))
 
 -- a plain byte is passed
-plain : (k : tie.Then3 Inv-loop μ-loop) → Named (now (k .before .before .before .before .before .before .args .s)) (k .before .before .before .before .before .before .args .from) (k .before .before .before .before .loop .at + 1)
+plain : (k : tie.Then3 Inv-loop μ-loop) → Named (now (k .before .before .before .before .before .before .args .s)) 0 (k .before .before .before .before .loop .at + 1)
 plain k = named-plain (k .before .before .before .before .loop .inv) (k .before .before .before .loop-test .taken) (omega (arith, k .before .if1 .left))
 
 loop-less-2 : tie.Need-loop-less-2 Inv-loop μ-loop
@@ -47,13 +47,13 @@ loop-again-2 c = record { same = plain (c .before) .same ∙ c .eights-end .ensu
 loop-again-3 : tie.Need-loop-again-3 Inv-loop μ-loop
 loop-again-3 c = named-plain (c .before .before .before .before .loop .inv) (c .before .before .before .loop-test .taken) (omega (arith, c .before .if1 .left))
 
-pub is-name-from-spec : {M : Type 1} → statement M
-is-name-from-spec =
+pub is-mixed-name-spec : {M : Type 1} → statement M
+is-mixed-name-spec =
     tie.close
     (tie.spec
     Inv-loop
     μ-loop
-    (λ c. named-none (now (c .before .args .s)) (c .before .args .from) (c .before .pre))
+    (λ c. named-none (now (c .before .args .s)) 0 (omega arith))
     (λ c. search needs)
     (λ c κs. (c .before .before .loop-test .taken, refl))
     returns

@@ -1,0 +1,2 @@
+-- What the proofs of `plain` share.
+pub mod Blocks

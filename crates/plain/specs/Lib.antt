@@ -1,0 +1,2 @@
+-- What plain bytes are.
+pub mod Plain
