@@ -3,4 +3,5 @@ pub mod Entity
 pub mod Forms
 pub mod Compact
 pub mod Section
+pub mod Names
 pub mod Examples

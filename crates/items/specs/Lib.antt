@@ -2,4 +2,5 @@
 pub mod Record
 pub mod Exception
 pub mod Judging
+pub mod Start
 pub mod Reading

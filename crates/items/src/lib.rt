@@ -5,12 +5,14 @@ use format::append_word;
 use format::copy;
 use format::count;
 use format::low;
+use plain::is_plain;
 ghost use mathlib.Core.Path.{_≡_};
 ghost use Prim.Native.Nat.{_≤_};
 ghost use lib.ListN.{length};
 ghost use Rattle.format.specs.Walk.{Walked, Walks};
 ghost use Rattle.items.specs.Record.{words as wordsOf, itemOf, lowOf, beginsIn, recordOf};
 ghost use Rattle.items.specs.Judging.{judgedOf, Tried, Puts};
+ghost use Rattle.items.specs.Start.{Starts};
 
 // Reads a record's words and appends its item.
 pub fn walk_words(words: &[u32], text: &[u8], out: &mut [u8], s: Done) -> Walk
@@ -51,6 +53,26 @@ pub enum Judged {
     Length(usize),
 }
 
+// The refusal that judging starts with, above which none is looked for. All texts of an import are names, and where its text is plain, none of them draws 4: they
+// are then not checked one by one. A text that is long for so few words is not looked through.
+fn start(words: &[u32], text: &[u8]) -> u32
+    ensures { λ r. ⌜ Starts (now (words .entry)) (now (text .entry)) r ⌝ }
+{
+    if words.len() == 0 {
+        return 9;
+    }
+    if words[0] != 2 {
+        return 9;
+    }
+    if words.len() < text.len() / 32 {
+        return 9;
+    }
+    if is_plain(text) {
+        return 4;
+    }
+    9
+}
+
 // Measured by a walk, which leaves the item of a record that draws none of them in `tried`, where there is room.
 pub fn judge(words: &[u32], text: &[u8], tried: &mut [u8]) -> Judged
     ensures { λ r. ⌜ (r ≡ judgedOf (now (words .entry)) (now (text .entry))) × Puts (now (words .entry)) (now (text .entry)) (now (tried .entry)) (now (tried .exit)) ⌝ }
@@ -58,7 +80,8 @@ pub fn judge(words: &[u32], text: &[u8], tried: &mut [u8]) -> Judged
     if 4096 < words.len() {
         return Judged::Refused(2);
     }
-    let Walk::Got(end, s) = walk_words(words, text, tried, Done::new(9)) else {
+    let from = start(words, text);
+    let Walk::Got(end, s) = walk_words(words, text, tried, Done::new(from)) else {
         return Judged::Refused(2);
     };
     if end != words.len() {
@@ -67,7 +90,7 @@ pub fn judge(words: &[u32], text: &[u8], tried: &mut [u8]) -> Judged
     if 65536 < text.len() {
         return Judged::Refused(3);
     }
-    if low(s) < 9 {
+    if low(s) < from {
         return Judged::Refused(low(s));
     }
     let n = count(s);

@@ -1,8 +1,9 @@
 -- What a walk over a record's words tells about the answer, for an entry that measures first and writes only what it accepts. Assumes nothing.
 use mathlib.Core.Path.{_≡_, refl, sym, ap, subst, _∙_}
+use mathlib.Core.Logic.{_⊎_, ⊎-elim}
 use mathlib.Core.Option.{some}
 use mathlib.Core.List.{List, [], _∷_, append-nil}
-use Prim.Native.Nat.{ℕ, _≤_, _<_}
+use Prim.Native.Nat.{ℕ, _≤_, _<_, min}
 use native.Mathlib.Omega.{arith}
 use lib.Dec.{ltb}
 use lib.ListN.{length, drop}
@@ -11,12 +12,12 @@ use borrow.Author.Tests.{lt-ltb, le-ltb}
 use Rattle.format.specs.Parsed.{Parsed, got, got-rest, fail-got}
 use Rattle.format.specs.Read.{same-place}
 use Rattle.format.specs.Write.{over}
-use Rattle.format.specs.Count.{counted, countIn, lowIn, has-start, has-count, has-lowest, adds-fresh}
+use Rattle.format.specs.Count.{counted, countIn, lowIn, has-start, has-count, has-lowest}
 use Rattle.format.specs.Walk.{Walks, Walked, no-walks, Gone, got-walks}
 use Rattle.format.specs.declared.Done.{Done}
 use Rattle.format.specs.declared.Walk.{Walk}
 use Rattle.format.specs.declared.Walk.the-variants as walks
-use Rattle.texts.specs.Text.{lowestOf, lowest-small}
+use Rattle.texts.specs.Text.{lowestOf}
 use Rattle.texts.specs.Judge.{Records, wordsMost, textMost, itemMost, recordIn, itemIn, why, two-exactly, whole-back, record-inv, record-back, no-record-exactly, fine, fine-accepted, drawn-first, drawn-none}
 
 module _ {A : Type 0} (R : Records A) (w t : List ℕ) where
@@ -45,22 +46,23 @@ module _ {A : Type 0} (R : Records A) (w t : List ℕ) where
     pub words-left : {p : ℕ} {u : Done} → r ≡ walks.Got p u → (p ≡ length w → ⊥) → why R w t ≡ 2
     words-left e n = let g = gone e in none-is (λ a q. n (same-place w (g .place) (omega arith) (got-rest (sym (g .read) ∙ q) ∙ sym (drop-length w))))
 
-  -- ---- else they are a record's, and a walk from nothing on counts its item and finds the lowest refusal that its texts draw
+  -- ---- else they are a record's, and a walk from nothing on counts its item and finds the lowest refusal that its texts draw, if it is below the one that
+  -- the walk starts with
 
-  pub record Measured (u : Done) : Type 0 where
+  pub record Measured (from : ℕ) (u : Done) : Type 0 where
     pub value : A
     pub is : recordIn R w ≡ some value
     pub count : countIn u ≡ counted (length (R .item t value))
-    pub lowest : lowIn u ≡ lowestOf t (R .texts value)
+    pub lowest : lowIn u ≡ min from (lowestOf t (R .texts value))
 
   pub measured : (old : List ℕ) (s : Done) (new : List ℕ) (r : Walk) → AddWalks old s new r → {p : ℕ} {u : Done} → r ≡ walks.Got p u → p ≡ length w
-      → length w ≤ wordsMost → s .v ≡ 9 → Measured u
-  measured old s new r h {p} {u} e all few start =
+      → length w ≤ wordsMost → {from : ℕ} → s .v ≡ from → from ≤ 9 → Measured from u
+  measured old s new r h {p} {u} e all few {from} start low =
       let g = gone old s new r h e in
       let end : drop p w ≡ [] = rw all (drop-length w) in
       let q : R .words .parse w ≡ got (g .value) [] = g .read ∙ ap (λ (l : List ℕ). got (g .value) l) end in
       let o = R .words .only w (g .value) [] q in
-      let k = adds-fresh (g .adds) start (lowest-small t (R .texts (g .value))) in
+      let k = g .adds .more [] from old (has-start old s from start low) in
       record {
         value = g .value;
         is = record-back R w (g .value) (o .0) (o .1 ∙ append-nil (R .words .print (g .value))) few;
@@ -68,20 +70,27 @@ module _ {A : Type 0} (R : Records A) (w t : List ℕ) where
         lowest = has-lowest k;
       }
 
-  module _ {u : Done} (m : Measured u) where
+  -- what its texts draw is below it, or nothing
+  abbrev pub Below : ℕ → A → Type 0
+  Below from a = (lowestOf t (R .texts a) < from) ⊎ (lowestOf t (R .texts a) ≡ 9)
+
+  module _ {from : ℕ} {u : Done} (m : Measured from u) where
     pub long-text : textMost < length t → why R w t ≡ 3
     long-text h = rw (m .is, lt-ltb textMost (length t) h)
 
-    module _ (short : length t ≤ textMost) where
-      pub refused-text : lowIn u < 9 → why R w t ≡ lowIn u
+    module _ (few : from ≤ 9) (below : Below from (m .value)) (short : length t ≤ textMost) where
+      pub drawn-low : lowIn u < from → lowIn u ≡ lowestOf t (R .texts (m .value))
+      drawn-low h = ⊎-elim (λ (k : lowestOf t (R .texts (m .value)) < from). omega (arith, m .lowest)) (λ (k : lowestOf t (R .texts (m .value)) ≡ 9). absurd (omega (arith, m .lowest))) below
+
+      pub refused-text : lowIn u < from → why R w t ≡ lowIn u
       refused-text h =
           let l = R .texts (m .value) in
-          let k : lowestOf t l < 9 = rw (m .lowest) at h in
-          rw (m .is, le-ltb textMost (length t) short, m .lowest) (drawn-first t l ((6, ltb itemMost (length (R .item t (m .value)))) ∷ []) k)
+          let e = drawn-low h in
+          rw (m .is, le-ltb textMost (length t) short, e) (drawn-first t l ((6, ltb itemMost (length (R .item t (m .value)))) ∷ []) (omega (arith, e)))
 
-      module _ (texts : 9 ≤ lowIn u) where
+      module _ (texts : from ≤ lowIn u) where
         none-low : lowestOf t (R .texts (m .value)) ≡ 9
-        none-low = omega (arith, m .lowest, lowest-small t (R .texts (m .value)))
+        none-low = ⊎-elim (λ (k : lowestOf t (R .texts (m .value)) < from). absurd (omega (arith, m .lowest))) (λ (k : lowestOf t (R .texts (m .value)) ≡ 9). k) below
 
         pub large-item : itemMost < countIn u → why R w t ≡ 6
         large-item h =
