@@ -64,10 +64,14 @@ fn add_tried(state: State, store: &mut [u8], words: &[u32], text: &[u8], tried: 
     Added::To(State { used: next })
 }
 
-// Clearing more room takes longer than it saves where a record is short.
+// Clearing more room takes longer than it saves where a record is short. Sixteen words are a table, one import, or data.
 pub fn add(state: State, store: &mut [u8], words: &[u32], text: &[u8]) -> Added
     ensures { λ r. ⌜ outcome (state .used) r (now (store .exit)) ≡ adding (state .used) (now (store .entry)) (now (words .entry)) (now (text .entry)) ⌝ }
 {
+    if words.len() <= 16 {
+        let mut tried = [0u8; 64];
+        return add_tried(state, store, words, text, &mut tried);
+    }
     if words.len() <= 64 {
         let mut tried = [0u8; 512];
         return add_tried(state, store, words, text, &mut tried);
@@ -113,13 +117,17 @@ fn read_tried(id: u8, front: &[u8], tried: &mut [u32], out: &mut [u32]) -> Taken
     Taken::Took(n, end)
 }
 
-// The records of tables and data have few words, and clearing room for more takes longer than reading them.
+// The records of tables and data have few words, and so have short items: clearing room for more takes longer than reading them.
 fn read_front(id: u8, front: &[u8], out: &mut [u32]) -> Taken
     requires { ⌜ length (now front) ≤ 65536 ⌝ }
     ensures { λ r. ⌜ readOutcome r (now (out .exit)) ≡ reading id (now (front .entry)) (now (out .entry)) ⌝ }
 {
     if id == 4 || id == 11 {
         let mut tried = [0u32; 16];
+        return read_tried(id, front, &mut tried, out);
+    }
+    if front.len() <= 64 {
+        let mut tried = [0u32; 128];
         return read_tried(id, front, &mut tried, out);
     }
     let mut tried = [0u32; 512];
