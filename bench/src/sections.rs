@@ -1,11 +1,12 @@
-// Adding, reading and finishing, for each section and each kind of record.
+// Adding and reading, for each section and each kind of record.
 use crate::records::{make, Record, SECTIONS};
 use crate::rust;
 use crate::timing::{least, ratio};
 use std::hint::black_box;
 use thriftbell::{add, finish, read_item};
 
-fn add_all(records: &[Record], store: &mut [u8]) -> usize {
+/// Adds them all to a fresh store, and says the room used.
+pub fn add_all(records: &[Record], store: &mut [u8]) -> usize {
     let mut used = 0;
     for r in records {
         add(&mut used, store, &r.words, &r.text).unwrap();
@@ -37,20 +38,18 @@ fn row(title: &str, id: u8, records: &[Record]) {
     let length = finish(used, &store, &[id], 0, &mut out).unwrap();
     rust::add(records, &mut frames);
     assert!(store[..used] == frames && out[..length] == rust::build(records).module(&[id], 0), "{title}: they differ");
-    let (items, mut words, mut copied) = (items(&frames), vec![0; 4096], vec![0; length]);
+    let (items, mut words) = (items(&frames), vec![0; 4096]);
 
     let time = least(|| { black_box(add_all(black_box(records), &mut store)); });
     let judged = ratio(|| { black_box(add_all(black_box(records), &mut store)); }, || rust::add(black_box(records), black_box(&mut frames)));
     let framed = ratio(|| { black_box(add_all(black_box(records), &mut store)); }, || rust::frame(black_box(records), black_box(&mut frames)));
     let built = ratio(|| { black_box(add_all(black_box(records), &mut store)); }, || { black_box(rust::build(black_box(records))); });
     let read = ratio(|| read_all(id, black_box(&items), &mut words), || { black_box(add_all(black_box(records), &mut store)); });
-    let module = out[..length].to_vec();
-    let finished = ratio(|| { black_box(finish(used, black_box(&store), &[id], 0, &mut out).unwrap()); }, || black_box(&mut copied).copy_from_slice(black_box(&module)));
-    println!("| {title} | {} | {:.0} | {judged:.2} | {framed:.2} | {built:.2} | {read:.2} | {finished:.2} |", length / records.len(), 1e9 * time / records.len() as f64);
+    println!("| {title} | {} | {:.0} | {judged:.2} | {framed:.2} | {built:.2} | {read:.2} |", length / records.len(), 1e9 * time / records.len() as f64);
 }
 
 pub fn print() {
-    println!("\n| Records | bytes an item | ns an add | add / Rust | add / unchecked | add / builder | read / add | finish / copy |\n|---|---|---|---|---|---|---|---|");
+    println!("\n| Records | bytes an item | ns an add | add / Rust | add / unchecked | add / builder | read / add |\n|---|---|---|---|---|---|---|");
     for (section, id, kinds) in SECTIONS {
         let mixed: Vec<Record> = (0..200).flat_map(|i| kinds.iter().map(move |kind| make(kind, i))).collect();
         row(&format!("**{section}**, all of these"), id, &mixed);
