@@ -6,7 +6,7 @@ use Prim.Native.Nat.{ℕ}
 use lib.IntN.{pos, negsuc}
 use Rattle.leb128.specs.Leb.{leb, lebBy, uleb, sleb}
 use Rattle.frames.specs.Frames.{Frame}
-use Rattle.module.specs.Module.{sectionOf}
+use Rattle.sections.specs.Section.{sectionOf}
 use Rattle.texts.specs.Judge.{recordIn, itemIn, why}
 use Rattle.types.specs.Words.{refWords}
 use Rattle.types.specs.Bytes.{refBytes, nullOf, nonNullOf}

@@ -15,8 +15,10 @@ use Rattle.frames.specs.Frames.{Frame, framesIn, noFrames, held}
 use Rattle.frames.specs.Append.{storeMost}
 use Rattle.frames.specs.Tally.{tallyOf}
 use Rattle.frames.specs.declared.Tallies.{Tallies}
-use Rattle.module.specs.Module.{header, sectionOf, moduleOf}
-use Rattle.module.specs.Finish.{orderMost, orderIds, allAmong, refused, outcome, isShort, finished, building, conditions, finishing}
+use Rattle.sections.specs.Section.{sectionOf}
+use Rattle.sections.specs.Order.{orderMost, orderIds, allAmong}
+use Rattle.module.specs.Module.{header, moduleOf}
+use Rattle.module.specs.Finish.{refused, outcome, isShort, finished, building, conditions, finishing}
 use Rattle.module.specs.declared.Finished.the-variants as F
 
 -- a tally tells whether there are frames

@@ -7,7 +7,7 @@ use lib.ListN.{length, drop, getD}
 use borrow.Author.Tests.{ne-eqb}
 use Rattle.format.specs.Read.{drop-more, drop-end}
 use Rattle.frames.specs.Frames.{among, sections}
-use Rattle.module.specs.Finish.{orderIds, allAmong}
+use Rattle.sections.specs.Order.{orderIds, allAmong}
 
 pub order-section : (i : ℕ) → (i ≡ 12 → ⊥) → among sections i ≡ among orderIds i
 order-section i h = rw (ne-eqb i 12 h)

@@ -1,7 +1,7 @@
 -- What finishing answers and leaves, for every input (document 01, Store and module; Answers by number: 1, 8, 9, 10). Assumes nothing.
 use mathlib.Core.Path.{_≡_, refl, sym}
 use mathlib.Core.Logic.{_↔_}
-use mathlib.Core.Bool.{Bool, true, false, cond, not, _||_}
+use mathlib.Core.Bool.{Bool, true, cond, not, _||_}
 use mathlib.Core.Option.{Option}
 use mathlib.Core.List.{List, [], _∷_}
 use Prim.Native.Nat.{ℕ}
@@ -10,22 +10,12 @@ use lib.Dec.{eqb, ltb}
 use lib.ListN.{length, take, drop}
 use Rattle.format.specs.Answers.{answer, NoneHolds, given-exactly, accepted-exactly, settled, settled-accepts, settled-exactly, one-stands}
 use Rattle.format.specs.Write.{Outcome, over}
-use Rattle.frames.specs.Frames.{Frame, among, framesIn, noFrames, held}
+use Rattle.frames.specs.Frames.{Frame, framesIn, noFrames, held}
 use Rattle.frames.specs.Append.{isOver}
+use Rattle.sections.specs.Order.{orderMost, orderIds, allAmong}
 use Rattle.module.specs.Module.{moduleOf}
 use Rattle.module.specs.declared.Finished.{Finished}
 use Rattle.module.specs.declared.Finished.the-variants.{Length, Over, Order, NoFrames, Short}
-
--- an order list has at most 32 ids, out of these
-abbrev pub orderMost : ℕ
-orderMost = 32
-
-abbrev pub orderIds : List ℕ
-orderIds = 1 ∷ 2 ∷ 4 ∷ 9 ∷ 11 ∷ 12 ∷ []
-
-abbrev pub allAmong : List ℕ → List ℕ → Bool
-allAmong ids [] = true
-allAmong ids (i ∷ order) = cond (among ids i) (allAmong ids order) false
 
 -- a refusal returns 0 and changes nothing
 abbrev pub refused : List ℕ → ℕ → Outcome

@@ -1,40 +1,16 @@
 -- The module that frames, an order list and a data count make (WebAssembly Core Specification 3.0, Binary Format, Modules;
 -- document 01, Store and module). Assumes nothing.
 use mathlib.Core.Path.{_≡_, refl, ap}
-use mathlib.Core.Bool.{cond}
 use mathlib.Core.List.{List, [], _∷_, _++_}
 use Prim.Native.Nat.{ℕ}
-use lib.Dec.{eqb}
-use lib.ListN.{length}
 use Rattle.format.specs.Lists.{prints}
-use Rattle.leb128.specs.Leb.{uleb}
 use Rattle.frames.specs.Frames.{Frame}
-use Rattle.frames.specs.Tally.{itemsOf, joined}
+use Rattle.frames.specs.Tally.{itemsOf}
+use Rattle.sections.specs.Section.{sectionOf}
 
 -- Modules: magic, version
 abbrev pub header : List ℕ
 header = 0x00 ∷ 0x61 ∷ 0x73 ∷ 0x6D ∷ 0x01 ∷ 0x00 ∷ 0x00 ∷ 0x00 ∷ []
-
--- Sections: id, size of the contents in bytes, contents
-abbrev pub withSize : List ℕ → List ℕ
-withSize contents = uleb (length contents) ++ contents
-
-abbrev pub section : ℕ → List ℕ → List ℕ
-section i contents = i ∷ withSize contents
-
--- Conventions, of several members: how many, as a u32, and then they
-abbrev pub vector : List (List ℕ) → List ℕ
-vector items = uleb (length items) ++ joined items
-
-abbrev pub dataCount : ℕ
-dataCount = 12
-
--- a section's items in order of adding; the data count section has the count alone
-abbrev pub contentsOf : ℕ → List Frame → ℕ → List ℕ
-contentsOf count fs i = cond (eqb i dataCount) (uleb count) (vector (itemsOf i fs))
-
-abbrev pub sectionOf : ℕ → List Frame → ℕ → List ℕ
-sectionOf count fs i = section i (contentsOf count fs i)
 
 unfoldable pub moduleOf : List ℕ → ℕ → List Frame → List ℕ
 moduleOf order count fs = header ++ prints (sectionOf count fs) order

@@ -14,7 +14,7 @@ use Rattle.leb128.specs.LebLaws.{bytes-at-most}
 use Rattle.frames.specs.Frames.{framesIn, framesOf, held}
 use Rattle.frames.specs.Append.{storeMost, isOver}
 use Rattle.frames.specs.Tally.{itemsOf, itemBytes, items-within}
-use Rattle.module.specs.Module.{vector, contentsOf, dataCount}
+use Rattle.sections.specs.Section.{vector, contentsOf, dataCount}
 
 -- a number of 32 bits takes at most five bytes
 five : (n : ℕ) → n < 2 ^ 32 → length (uleb n) ≤ 5

@@ -1,6 +1,5 @@
 // Finishing: the module of a store's frames, by an order list and a data count.
 mod order;
-mod sections;
 
 use format::Written;
 use frames::STORE_MOST;
@@ -16,8 +15,9 @@ ghost use Rattle.format.specs.Runs.{run};
 ghost use Rattle.format.specs.Write.{Writes};
 ghost use Rattle.frames.specs.Frames.{frame};
 ghost use Rattle.frames.specs.Append.{storeMost};
+ghost use Rattle.sections.specs.Order.{orderMost, orderIds, allAmong};
 ghost use Rattle.module.specs.Module.{header};
-ghost use Rattle.module.specs.Finish.{outcome, building, finishing, orderMost, orderIds, allAmong};
+ghost use Rattle.module.specs.Finish.{outcome, building, finishing};
 
 // The most ids of an order list.
 const ORDER_MOST: usize = 32;

@@ -1,7 +1,7 @@
 // The order list of a finish.
 ghost use mathlib.Core.Path.{_≡_};
 ghost use Rattle.frames.specs.Frames.{among};
-ghost use Rattle.module.specs.Finish.{orderIds, allAmong};
+ghost use Rattle.sections.specs.Order.{orderIds, allAmong};
 
 fn is_order_id(id: u8) -> bool
     ensures { λ r. ⌜ r ≡ among orderIds id ⌝ }

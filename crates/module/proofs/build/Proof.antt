@@ -17,8 +17,9 @@ use Rattle.frames.specs.Frames.{frame, framesOf, noFrames}
 use Rattle.frames.specs.Append.{storeMost}
 use Rattle.frames.specs.Tally.{items-within}
 use Rattle.frames.specs.declared.Tallies.{Tallies}
-use Rattle.module.specs.Module.{header, sectionOf}
-use Rattle.module.proofs.Listed.{total-is}
+use Rattle.sections.specs.Section.{sectionOf}
+use Rattle.sections.proofs.Listed.{total-is}
+use Rattle.module.specs.Module.{header}
 use Rattle.module.proofs.Finishing.{tally-told, module-parts, module-long, no-frames, short, written}
 use Rattle.module.proofs.build.Statement.{statement}
 use Rattle.module.proofs.build.Tie as tie

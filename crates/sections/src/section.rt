@@ -1,33 +1,30 @@
-// The sections of a module: their lengths first, and then their bytes, where there is room for all.
+// One section: its length, and its bytes where there is room for them.
 use format::Written;
 use frames::FrameAt;
-use frames::Tallies;
 ghost use mathlib.Core.Path.{_≡_};
-ghost use mathlib.Core.Bool.{true, false, cond};
+ghost use mathlib.Core.Bool.{false, cond};
 ghost use mathlib.Core.List.{List, _++_};
-ghost use Prim.Native.Nat.{ℕ, _+_, _*_, _≤_, _<_};
+ghost use Prim.Native.Nat.{ℕ, _+_, _≤_};
 ghost use lib.Dec.{eqb};
-ghost use lib.ListN.{length, getD};
-ghost use Rattle.format.specs.Lists.{prints};
+ghost use lib.ListN.{length};
 ghost use Rattle.format.specs.Runs.{run};
 ghost use Rattle.format.specs.Write.{Writes};
 ghost use Rattle.format.specs.declared.Written.the-variants.{Length};
 ghost use Rattle.leb128.specs.Leb.{uleb};
-ghost use Rattle.frames.specs.Frames.{frame, noFrames, framesOf};
+ghost use Rattle.frames.specs.Frames.{frame, noFrames};
 ghost use Rattle.frames.specs.Append.{storeMost};
-ghost use Rattle.frames.specs.Tally.{itemBytes, tallyOf};
-ghost use Rattle.module.specs.Module.{withSize, section, sectionOf, dataCount};
-ghost use Rattle.module.specs.Finish.{orderMost, orderIds, allAmong};
+ghost use Rattle.frames.specs.Tally.{itemBytes};
+ghost use Rattle.sections.specs.Section.{withSize, section, dataCount};
 
 // The count that a section says: how many items it has or, of the section that has none, the data count.
-fn count_of(id: u8, items: usize, count: u32) -> usize
+pub fn count_of(id: u8, items: usize, count: u32) -> usize
     ensures { λ r. ⌜ r ≡ cond (eqb id dataCount) count items ⌝ }
 {
     if id == 12 { count as usize } else { items }
 }
 
 // How many bytes a section has that says this count and has items of so many bytes.
-fn section_len(count: usize, total: usize) -> usize
+pub fn section_len(count: usize, total: usize) -> usize
     requires { ⌜ total ≤ storeMost ⌝ }
     ensures { λ r. ⌜ ((i : ℕ) (items : List ℕ) → length items ≡ total → r ≡ length (section i (uleb count ++ items))) × (r ≤ total + 21) ⌝ }
 {
@@ -81,7 +78,7 @@ fn encode_section(frames: &[u8], id: u8, count: usize, total: usize, out: &mut [
     b + put_items(frames, id, total, &mut out[b..])
 }
 
-fn put_section(frames: &[u8], id: u8, count: usize, total: usize, out: &mut [u8]) -> usize
+pub fn put_section(frames: &[u8], id: u8, count: usize, total: usize, out: &mut [u8]) -> usize
     requires { ⌜ noFrames (run frame (now frames)) ≡ false ⌝ }
     requires { ⌜ (total ≡ length (itemBytes id (now frames))) × (total ≤ storeMost) ⌝ }
     requires { ⌜ length (section id (uleb count ++ itemBytes id (now frames))) ≤ length (now out) ⌝ }
@@ -89,51 +86,4 @@ fn put_section(frames: &[u8], id: u8, count: usize, total: usize, out: &mut [u8]
 {
     out[0] = id;
     1 + encode_section(frames, id, count, total, &mut out[1..])
-}
-
-// How many bytes the sections of an order list have.
-pub fn sections_len(order: &[u8], t: Tallies, count: u32) -> usize
-    requires { ⌜ allAmong orderIds (now order) ≡ true ⌝ }
-    requires { ⌜ length (now order) ≤ orderMost ⌝ }
-    requires { ⌜ ((i : ℕ) → i < 16 → getD (t .totals) i 0 ≤ storeMost) ⌝ }
-    ensures { λ r. ⌜ ((s : List ℕ) → t ≡ tallyOf (run frame s) → r ≡ length (prints (sectionOf count (framesOf s)) (now (order .entry)))) ⌝ }
-    ensures { λ r. ⌜ r ≤ orderMost * (storeMost + 21) ⌝ }
-{
-    let counts = t.counts;
-    let totals = t.totals;
-    let mut n: usize = 0;
-    let mut j: usize = 0;
-    while j < order.len() {
-        let id = order[j];
-        let i = id as usize;
-        n += section_len(count_of(id, counts[i], count), totals[i]);
-        j += 1;
-    }
-    n
-}
-
-pub fn put_sections(frames: &[u8], order: &[u8], t: Tallies, count: u32, out: &mut [u8]) -> usize
-    requires { ⌜ allAmong orderIds (now order) ≡ true ⌝ }
-    requires { ⌜ (t ≡ tallyOf (run frame (now frames))) × (noFrames (run frame (now frames)) ≡ false) ⌝ }
-    requires { ⌜ length (now frames) ≤ storeMost ⌝ }
-    requires { ⌜ length (prints (sectionOf count (framesOf (now frames))) (now order)) ≤ length (now out) ⌝ }
-    ensures { λ r. ⌜ Writes (prints (sectionOf count (framesOf (now (frames .entry)))) (now (order .entry))) (now (out .entry)) (now (out .exit)) (Length r) ⌝ }
-{
-    let counts = t.counts;
-    let totals = t.totals;
-    let mut n: usize = 0;
-    let mut k: usize = 0;
-    while k < order.len() {
-        let id = order[k];
-        let i = id as usize;
-        n += put_section(
-            frames,
-            id,
-            count_of(id, counts[i], count),
-            totals[i],
-            &mut out[n..],
-        );
-        k += 1;
-    }
-    n
 }

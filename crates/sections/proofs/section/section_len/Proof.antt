@@ -1,13 +1,13 @@
--- `module::sections::section_len` meets its contract: id, size, count and items. Assumes nothing.
+-- `sections::section::section_len` meets its contract: id, size, count and items. Assumes nothing.
 use mathlib.Core.Path.{sym, ap, _∙_}
 use mathlib.Core.Bool.{false}
 use Prim.Native.Nat.{ℕ, _+_, _≤_}
 use native.Mathlib.Omega.{arith}
 use borrow.Author.Needs.{needs}
 use Rattle.leb128.proofs.Writing.{ten}
-use Rattle.module.proofs.Lengths.{counted-long}
-use Rattle.module.proofs.sections.section_len.Statement.{statement}
-use Rattle.module.proofs.sections.section_len.Tie as tie
+use Rattle.sections.proofs.Lengths.{counted-long}
+use Rattle.sections.proofs.section.section_len.Statement.{statement}
+use Rattle.sections.proofs.section.section_len.Tie as tie
 
 -- a count takes at most ten bytes
 short : (c : tie.After-size) → c .size .result ≤ 10

@@ -1,4 +1,4 @@
--- `module::sections::sections_len` meets its contract: one section's length after the other. Assumes nothing.
+-- `sections::sections_len` meets its contract: one section's length after the other. Assumes nothing.
 use denote.Ref.{now}
 use mathlib.Core.Path.{ap}
 use native.Mathlib.Omega.{arith}
@@ -7,9 +7,9 @@ use lib.ListN.{length, getD}
 use borrow.Author.Needs.{needs}
 use Rattle.frames.specs.Append.{storeMost}
 use Rattle.frames.specs.declared.Tallies.{Tallies}
-use Rattle.module.proofs.Listed.{listed, listed-below, Measured, measured-none, measured-more, measured-all}
-use Rattle.module.proofs.sections.sections_len.Statement.{statement}
-use Rattle.module.proofs.sections.sections_len.Tie as tie
+use Rattle.sections.proofs.Listed.{listed, listed-below, Measured, measured-none, measured-more, measured-all}
+use Rattle.sections.proofs.sections_len.Statement.{statement}
+use Rattle.sections.proofs.sections_len.Tie as tie
 
 abbrev Inv-loop : tie.InvT-loop
 Inv-loop order count counts totals n₀ j₀ n j = Measured order count counts totals n j × (j ≤ length order)

@@ -1,4 +1,4 @@
--- `module::sections::put_items` meets its contract: a walk that copies, up to the last byte of the section. Assumes nothing.
+-- `sections::section::put_items` meets its contract: a walk that copies, up to the last byte of the section. Assumes nothing.
 use denote.Ref.{now}
 use mathlib.Core.Path.{sym, _∙_}
 use native.Mathlib.Omega.{arith}
@@ -7,9 +7,9 @@ use lib.ListN.{length}
 use borrow.Author.Needs.{needs}
 use Rattle.format.specs.Write.{Room, within, same-long}
 use Rattle.frames.proofs.Placing.{Begins, frame-found}
-use Rattle.module.proofs.Copying.{Copied, copied-none, copied-stop, copied-other, copied-room, copied-item, copied-done}
-use Rattle.module.proofs.sections.put_items.Statement.{statement}
-use Rattle.module.proofs.sections.put_items.Tie as tie
+use Rattle.sections.proofs.Copying.{Copied, copied-none, copied-stop, copied-other, copied-room, copied-item, copied-done}
+use Rattle.sections.proofs.section.put_items.Statement.{statement}
+use Rattle.sections.proofs.section.put_items.Tie as tie
 
 abbrev Inv-loop : tie.InvT-loop
 Inv-loop frames id total out₀ n₀ at₀ out n at = Copied frames id total out₀ out n at

@@ -1,4 +1,4 @@
--- `module::sections::put_sections` meets its contract: one section behind the other. Assumes nothing.
+-- `sections::put_sections` meets its contract: one section behind the other. Assumes nothing.
 use denote.Ref.{now}
 use mathlib.Core.Path.{_≡_, ap}
 use mathlib.Core.List.{List, _++_}
@@ -11,10 +11,10 @@ use Rattle.leb128.specs.Leb.{uleb}
 use Rattle.frames.specs.Frames.{framesOf}
 use Rattle.frames.specs.Tally.{itemBytes, items-within}
 use Rattle.frames.specs.declared.Tallies.{Tallies}
-use Rattle.module.specs.Module.{sectionOf, section}
-use Rattle.module.proofs.Listed.{listed, listed-below, total-is, section-is, Put, put-none, put-room, put-more, put-all}
-use Rattle.module.proofs.sections.put_sections.Statement.{statement}
-use Rattle.module.proofs.sections.put_sections.Tie as tie
+use Rattle.sections.specs.Section.{sectionOf, section}
+use Rattle.sections.proofs.Listed.{listed, listed-below, total-is, section-is, Put, put-none, put-room, put-more, put-all}
+use Rattle.sections.proofs.put_sections.Statement.{statement}
+use Rattle.sections.proofs.put_sections.Tie as tie
 
 abbrev Inv-loop : tie.InvT-loop
 Inv-loop frames order count out₀ counts totals n₀ k₀ out n k = Put order count frames out₀ out n k

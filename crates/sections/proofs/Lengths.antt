@@ -5,7 +5,7 @@ use Prim.Native.Nat.{ℕ, _+_}
 use native.Mathlib.Omega.{arith}
 use lib.ListN.{length, length-append}
 use Rattle.leb128.specs.Leb.{uleb}
-use Rattle.module.specs.Module.{withSize, section}
+use Rattle.sections.specs.Section.{withSize, section}
 
 pub section-long : (i : ℕ) (contents : List ℕ) (n : ℕ) → length contents ≡ n → length (section i contents) ≡ 1 + length (uleb n) + n
 section-long i contents n e =

@@ -1,4 +1,4 @@
--- `module::sections::put_section` meets its contract: its id, and the rest behind it. Assumes nothing.
+-- `sections::section::put_section` meets its contract: its id, and the rest behind it. Assumes nothing.
 use denote.Ref.{now}
 use mathlib.Core.List.{List, [], _∷_, _++_}
 use native.Mathlib.Omega.{arith}
@@ -9,9 +9,9 @@ use Rattle.format.specs.Write.{Writes, Room, write-one, writes-then, room-then,
 use Rattle.format.specs.declared.Written.the-variants.{Length}
 use Rattle.leb128.specs.Leb.{uleb}
 use Rattle.frames.specs.Tally.{itemBytes}
-use Rattle.module.specs.Module.{withSize}
-use Rattle.module.proofs.sections.put_section.Statement.{statement}
-use Rattle.module.proofs.sections.put_section.Tie as tie
+use Rattle.sections.specs.Section.{withSize}
+use Rattle.sections.proofs.section.put_section.Statement.{statement}
+use Rattle.sections.proofs.section.put_section.Tie as tie
 
 module _ (k : tie.After-slice-known) where
   abbrev rest : List ℕ

@@ -1,4 +1,4 @@
--- `module::sections::encode_section` meets its contract: size, count and items, one behind the other. Assumes nothing.
+-- `sections::section::encode_section` meets its contract: size, count and items, one behind the other. Assumes nothing.
 use denote.Ref.{now}
 use mathlib.Core.Path.{_≡_, subst, sym}
 use mathlib.Core.Bool.{false}
@@ -13,10 +13,10 @@ use Rattle.format.specs.declared.Written.the-variants.{Length}
 use Rattle.leb128.specs.Leb.{uleb}
 use Rattle.leb128.proofs.Writing.{ten}
 use Rattle.frames.specs.Tally.{itemBytes}
-use Rattle.module.specs.Module.{withSize}
-use Rattle.module.proofs.Lengths.{counted-parts}
-use Rattle.module.proofs.sections.encode_section.Statement.{statement}
-use Rattle.module.proofs.sections.encode_section.Tie as tie
+use Rattle.sections.specs.Section.{withSize}
+use Rattle.sections.proofs.Lengths.{counted-parts}
+use Rattle.sections.proofs.section.encode_section.Statement.{statement}
+use Rattle.sections.proofs.section.encode_section.Tie as tie
 
 module _ (k : tie.After-size) where
   abbrev items : List ℕ

@@ -18,8 +18,8 @@ use Rattle.leb128.specs.Leb.{uleb}
 use Rattle.frames.specs.Frames.{frame, framesOf, frames-ok, sections, among, among-each}
 use Rattle.frames.specs.Append.{storeMost}
 use Rattle.frames.specs.Tally.{itemsOf, itemBytes, tallyOf, no-items, count-at, total-at}
-use Rattle.module.specs.Module.{section, sectionOf, dataCount}
-use Rattle.module.specs.Finish.{orderIds, allAmong}
+use Rattle.sections.specs.Section.{section, sectionOf, dataCount}
+use Rattle.sections.specs.Order.{orderIds, allAmong}
 
 -- ---- an id of an order list
 

@@ -1,11 +1,11 @@
--- `module::sections::put_number` meets its contract: it is never short. Assumes nothing.
+-- `sections::section::put_number` meets its contract: it is never short. Assumes nothing.
 use mathlib.Core.Path.{subst}
 use native.Mathlib.Omega.{arith}
 use borrow.Author.Needs.{needs}
 use Rattle.format.specs.Write.{Writes, told-short}
 use Rattle.leb128.specs.Leb.{uleb}
-use Rattle.module.proofs.sections.put_number.Statement.{statement}
-use Rattle.module.proofs.sections.put_number.Tie as tie
+use Rattle.sections.proofs.section.put_number.Statement.{statement}
+use Rattle.sections.proofs.section.put_number.Tie as tie
 
 returns : tie.Need-returns
 returns c = subst (Writes (uleb (c .before .before .before .before .before .before .before .before .args .n)) _ _) (c .before .k .given .1) (c .before .before .before .before .before .encode .ensures)

@@ -1,7 +1,0 @@
--- `module::sections::count_of` meets its contract. Assumes nothing.
-use borrow.Author.Tests.{ne-eqb}
-use Rattle.module.proofs.sections.count_of.Statement.{statement}
-use Rattle.module.proofs.sections.count_of.Tie as tie
-
-pub count-of-spec : {M : Type 1} → statement M
-count-of-spec = tie.close (tie.spec (λ c. rw (c .if1 .taken)) (λ c. rw (ne-eqb (c .before .args .id) 12 (c .if1 .left))))

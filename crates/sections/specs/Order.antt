@@ -1,0 +1,16 @@
+-- Order lists (document 01, Store and module; answer 8: none). Assumes nothing.
+use mathlib.Core.Bool.{Bool, true, false, cond}
+use mathlib.Core.List.{List, [], _∷_}
+use Prim.Native.Nat.{ℕ}
+use Rattle.frames.specs.Frames.{among}
+
+-- an order list has at most 32 ids, out of these
+abbrev pub orderMost : ℕ
+orderMost = 32
+
+abbrev pub orderIds : List ℕ
+orderIds = 1 ∷ 2 ∷ 4 ∷ 9 ∷ 11 ∷ 12 ∷ []
+
+abbrev pub allAmong : List ℕ → List ℕ → Bool
+allAmong ids [] = true
+allAmong ids (i ∷ order) = cond (among ids i) (allAmong ids order) false
