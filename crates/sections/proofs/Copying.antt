@@ -34,11 +34,11 @@ pub record Copied (s : List ℕ) (id total : ℕ) (xs ys : List ℕ) (n at : ℕ
   pub walk : Walked s past at
   pub done : Writes (joined (itemsOf id past)) xs ys (Length n)
 
-no-bytes : (l : List ℕ) → length l ≡ 0 → l ≡ []
+pub no-bytes : (l : List ℕ) → length l ≡ 0 → l ≡ []
 no-bytes [] e = refl
 no-bytes (x ∷ l) e = absurd (omega arith)
 
-some-of : (o : Option (List Frame)) → noFrames o ≡ false → (all : List Frame) × (o ≡ some all)
+pub some-of : (o : Option (List Frame)) → noFrames o ≡ false → (all : List Frame) × (o ≡ some all)
 some-of none e = absurd (true≢false e)
 some-of (some all) e = (all, refl)
 
@@ -47,14 +47,19 @@ copied-none s id total xs e l h =
     let (all, q) = some-of (run frame s) e in
     record { all = all; is = q; size = rw q at l; room = h; past = []; walk = walk-none s; done = wrote-none xs }
 
+-- a section's items among the frames that were passed, and the others
+module _ {s : List ℕ} {all : List Frame} (is : run frame s ≡ some all) (id : ℕ) {fs : List Frame} {at : ℕ} (w : Walked s fs at) where
+  items-left : (gs : List Frame) × (joined (itemsOf id all) ≡ joined (itemsOf id fs) ++ joined (itemsOf id gs))
+  items-left = let (gs, e) = walk-rest w all is in (gs, ap (λ (l : List Frame). joined (itemsOf id l)) e ∙ rw (items-append id fs gs) (prints-append (λ l. l) (itemsOf id fs) (itemsOf id gs)))
+
+  pub items-bounded : length (joined (itemsOf id fs)) ≤ length (joined (itemsOf id all))
+  items-bounded = let (gs, e) = items-left in omega (arith, ap length e, length-append (joined (itemsOf id fs)) (joined (itemsOf id gs)))
+
+-- one item more
+pub joined-one : (id : ℕ) (fs : List Frame) (f : Frame) → f .id ≡ id → joined (itemsOf id (fs ++ (f ∷ []))) ≡ joined (itemsOf id fs) ++ f .item
+joined-one id fs f q = ap joined (items-one id fs f q) ∙ prints-more (λ l. l) (itemsOf id fs) (f .item)
+
 module _ {s : List ℕ} {id total : ℕ} {xs ys : List ℕ} {n at : ℕ} (c : Copied s id total xs ys n at) where
-  -- what is written and what is to be written is all
-  left : {fs : List Frame} {p : ℕ} → Walked s fs p → (gs : List Frame) × (joined (itemsOf id (c .all)) ≡ joined (itemsOf id fs) ++ joined (itemsOf id gs))
-  left {fs} w = let (gs, e) = walk-rest w (c .all) (c .is) in (gs, ap (λ (l : List Frame). joined (itemsOf id l)) e ∙ rw (items-append id fs gs) (prints-append (λ l. l) (itemsOf id fs) (itemsOf id gs)))
-
-  bounded : {fs : List Frame} {p : ℕ} → Walked s fs p → length (joined (itemsOf id fs)) ≤ total
-  bounded {fs} w = let (gs, e) = left w in omega (arith, c .size, ap length e, length-append (joined (itemsOf id fs)) (joined (itemsOf id gs)))
-
   pub copied-more : n < total → at < length s
   copied-more h = ⊎-elim ended (λ k. k) (fits-or (length s) at)
     where
@@ -79,10 +84,10 @@ module _ {s : List ℕ} {id total : ℕ} {xs ys : List ℕ} {n at : ℕ} (c : Co
 
     module _ (q : i ≡ id) where
       one : joined (itemsOf id (c .past ++ (b .here ∷ []))) ≡ joined (itemsOf id (c .past)) ++ b .here .item
-      one = ap joined (items-one id (c .past) (b .here) (b .is ∙ q)) ∙ prints-more (λ l. l) (itemsOf id (c .past)) (b .here .item)
+      one = joined-one id (c .past) (b .here) (b .is ∙ q)
 
       pub copied-room : Room (b .here .item) ys n
-      copied-room = room-then (b .here .item) (c .done) (omega (arith, bounded walk, ap length one, c .room))
+      copied-room = room-then (b .here .item) (c .done) (omega (arith, items-bounded (c .is) id walk, ap length one, c .size, c .room))
 
       pub copied-item : {r : Written} {zs : List ℕ} → Writes (take (end - (at + 5)) (drop (at + 5) s)) (midOf n (length ys - n) ys) zs r
           → Copied s id total xs (putMid n (length ys - n) ys zs) (n + (end - (at + 5))) end
@@ -93,7 +98,7 @@ module _ {s : List ℕ} {id total : ℕ} {xs ys : List ℕ} {n at : ℕ} (c : Co
 
   pub copied-done : total ≤ n → Writes (itemBytes id s) xs ys (Length n)
   copied-done h =
-      let (gs, e) = left (c .walk) in
+      let (gs, e) = items-left (c .is) id (c .walk) in
       let (m, _, _) = told-length (c .done) refl in
       let z : joined (itemsOf id gs) ≡ [] = no-bytes (joined (itemsOf id gs)) (omega (arith, c .size, ap length e, length-append (joined (itemsOf id (c .past))) (joined (itemsOf id gs)))) in
       let f : itemBytes id s ≡ joined (itemsOf id (c .past)) =

@@ -2,3 +2,7 @@
 pub mod Lengths
 pub mod Copying
 pub mod Listed
+pub mod Laying
+pub mod Seen
+pub mod Heading
+pub mod Filling

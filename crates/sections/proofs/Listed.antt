@@ -10,7 +10,7 @@ use lib.ListN.{length, take, drop, getD, length-append, take-append-drop}
 use lib.Seq.{take-suc, take-all}
 use borrow.Author.Tests.{eqb-true}
 use borrow.Rule.Slice.PartMut.{putMid, midOf}
-use Rattle.format.specs.Lists.{prints, prints-append, prints-more}
+use Rattle.format.specs.Lists.{All, prints, prints-append, prints-more}
 use Rattle.format.specs.Runs.{run}
 use Rattle.format.specs.Write.{Writes, Room, writes, writes-as, writes-then, room-then}
 use Rattle.format.specs.declared.Written.the-variants.{Length}
@@ -35,6 +35,11 @@ listed (i ∷ order) (suc j) e h = listed order j (both (among orderIds i) (allA
 -- it is below 16
 pub listed-below : (i : ℕ) → among orderIds i ≡ true → i < 16
 listed-below i e = among-each (λ k. k < 16) orderIds i (omega arith, (omega arith, (omega arith, (omega arith, (omega arith, (omega arith, tt)))))) e
+
+-- so what holds of ids below 16 holds of each
+pub listed-all : (P : ℕ → Type 0) → ((i : ℕ) → i < 16 → P i) → (order : List ℕ) → allAmong orderIds order ≡ true → All P order
+listed-all P f [] e = tt
+listed-all P f (i ∷ order) e = let (a, b) = both (among orderIds i) (allAmong orderIds order) e in (f i (listed-below i a), listed-all P f order b)
 
 -- ---- what a section says
 

@@ -1,7 +1,9 @@
 -- Order lists (document 01, Store and module; answer 8: none). Assumes nothing.
+use mathlib.Core.Path.{_≡_}
 use mathlib.Core.Bool.{Bool, true, false, cond}
 use mathlib.Core.List.{List, [], _∷_}
 use Prim.Native.Nat.{ℕ}
+use Rattle.format.specs.Lists.{All}
 use Rattle.frames.specs.Frames.{among}
 
 -- an order list has at most 32 ids, out of these
@@ -14,3 +16,11 @@ orderIds = 1 ∷ 2 ∷ 4 ∷ 9 ∷ 11 ∷ 12 ∷ []
 abbrev pub allAmong : List ℕ → List ℕ → Bool
 allAmong ids [] = true
 allAmong ids (i ∷ order) = cond (among ids i) (allAmong ids order) false
+
+-- an id that a list does not have, and a list that has none twice
+abbrev pub Away : ℕ → List ℕ → Type 0
+Away i order = All (λ j. j ≡ i → ⊥) order
+
+abbrev pub Once : List ℕ → Type 0
+Once [] = Unit {0}
+Once (i ∷ order) = Away i order × Once order

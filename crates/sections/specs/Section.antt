@@ -2,7 +2,7 @@
 -- Assumes nothing.
 use mathlib.Core.Bool.{cond}
 use mathlib.Core.List.{List, _∷_, _++_}
-use Prim.Native.Nat.{ℕ}
+use Prim.Native.Nat.{ℕ, _+_}
 use lib.Dec.{eqb}
 use lib.ListN.{length}
 use Rattle.leb128.specs.Leb.{uleb}
@@ -19,6 +19,10 @@ section i contents = i ∷ withSize contents
 -- Conventions, of several members: how many, as a u32, and then they
 abbrev pub vector : List (List ℕ) → List ℕ
 vector items = uleb (length items) ++ joined items
+
+-- what stands before items of `total` bytes: the section's id, its size, and the count that it says
+abbrev pub headOf : ℕ → ℕ → ℕ → List ℕ
+headOf i count total = i ∷ (uleb (length (uleb count) + total) ++ uleb count)
 
 abbrev pub dataCount : ℕ
 dataCount = 12

@@ -1,9 +1,13 @@
 // The sections of a module: their lengths first, and then their bytes, where there is room for all.
+mod each;
+mod once;
 mod section;
 
+use each::put_each;
 use frames::Tallies;
+use once::is_once;
+use once::put_once;
 use section::count_of;
-use section::put_section;
 use section::section_len;
 ghost use mathlib.Core.Path.{_≡_};
 ghost use mathlib.Core.Bool.{true, false};
@@ -41,6 +45,7 @@ pub fn sections_len(order: &[u8], t: Tallies, count: u32) -> usize
     n
 }
 
+// One walk over the frames serves all sections, where no id is listed twice; for one section alone `put_each` is the quicker.
 pub fn put_sections(frames: &[u8], order: &[u8], t: Tallies, count: u32, out: &mut [u8]) -> usize
     requires { ⌜ allAmong orderIds (now order) ≡ true ⌝ }
     requires { ⌜ (t ≡ tallyOf (run frame (now frames))) × (noFrames (run frame (now frames)) ≡ false) ⌝ }
@@ -48,21 +53,8 @@ pub fn put_sections(frames: &[u8], order: &[u8], t: Tallies, count: u32, out: &m
     requires { ⌜ length (prints (sectionOf count (framesOf (now frames))) (now order)) ≤ length (now out) ⌝ }
     ensures { λ r. ⌜ Writes (prints (sectionOf count (framesOf (now (frames .entry)))) (now (order .entry))) (now (out .entry)) (now (out .exit)) (Length r) ⌝ }
 {
-    let counts = t.counts;
-    let totals = t.totals;
-    let mut n: usize = 0;
-    let mut k: usize = 0;
-    while k < order.len() {
-        let id = order[k];
-        let i = id as usize;
-        n += put_section(
-            frames,
-            id,
-            count_of(id, counts[i], count),
-            totals[i],
-            &mut out[n..],
-        );
-        k += 1;
+    if 1 < order.len() && is_once(order) {
+        return put_once(frames, order, t, count, out);
     }
-    n
+    put_each(frames, order, t, count, out)
 }

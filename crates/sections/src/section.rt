@@ -14,7 +14,7 @@ ghost use Rattle.leb128.specs.Leb.{uleb};
 ghost use Rattle.frames.specs.Frames.{frame, noFrames};
 ghost use Rattle.frames.specs.Append.{storeMost};
 ghost use Rattle.frames.specs.Tally.{itemBytes};
-ghost use Rattle.sections.specs.Section.{withSize, section, dataCount};
+ghost use Rattle.sections.specs.Section.{section, headOf, dataCount};
 
 // The count that a section says: how many items it has or, of the section that has none, the data count.
 pub fn count_of(id: u8, items: usize, count: u32) -> usize
@@ -43,6 +43,17 @@ fn put_number(n: usize, out: &mut [u8]) -> usize
     }
 }
 
+// What stands before the items of a section.
+pub fn put_head(id: u8, count: usize, total: usize, out: &mut [u8]) -> usize
+    requires { ⌜ total ≤ storeMost ⌝ }
+    requires { ⌜ length (headOf id count total) ≤ length (now out) ⌝ }
+    ensures { λ r. ⌜ Writes (headOf id count total) (now (out .entry)) (now (out .exit)) (Length r) ⌝ }
+{
+    out[0] = id;
+    let a = 1 + put_number(leb128::size(false, count as u64) + total, &mut out[1..]);
+    a + put_number(count, &mut out[a..])
+}
+
 // The items of a section, of which there are so many bytes: the walk ends with the last of them.
 fn put_items(frames: &[u8], id: u8, total: usize, out: &mut [u8]) -> usize
     requires { ⌜ noFrames (run frame (now frames)) ≡ false ⌝ }
@@ -66,24 +77,13 @@ fn put_items(frames: &[u8], id: u8, total: usize, out: &mut [u8]) -> usize
     n
 }
 
-// Size, count and items, as the Rust's `encode_section`.
-fn encode_section(frames: &[u8], id: u8, count: usize, total: usize, out: &mut [u8]) -> usize
-    requires { ⌜ noFrames (run frame (now frames)) ≡ false ⌝ }
-    requires { ⌜ (total ≡ length (itemBytes id (now frames))) × (total ≤ storeMost) ⌝ }
-    requires { ⌜ length (withSize (uleb count ++ itemBytes id (now frames))) ≤ length (now out) ⌝ }
-    ensures { λ r. ⌜ Writes (withSize (uleb count ++ itemBytes id (now (frames .entry)))) (now (out .entry)) (now (out .exit)) (Length r) ⌝ }
-{
-    let a = put_number(leb128::size(false, count as u64) + total, out);
-    let b = a + put_number(count, &mut out[a..]);
-    b + put_items(frames, id, total, &mut out[b..])
-}
-
+// A section, as the Rust's `encode_section` writes it behind its id.
 pub fn put_section(frames: &[u8], id: u8, count: usize, total: usize, out: &mut [u8]) -> usize
     requires { ⌜ noFrames (run frame (now frames)) ≡ false ⌝ }
     requires { ⌜ (total ≡ length (itemBytes id (now frames))) × (total ≤ storeMost) ⌝ }
     requires { ⌜ length (section id (uleb count ++ itemBytes id (now frames))) ≤ length (now out) ⌝ }
     ensures { λ r. ⌜ Writes (section id (uleb count ++ itemBytes id (now (frames .entry)))) (now (out .entry)) (now (out .exit)) (Length r) ⌝ }
 {
-    out[0] = id;
-    1 + encode_section(frames, id, count, total, &mut out[1..])
+    let n = put_head(id, count, total, out);
+    n + put_items(frames, id, total, &mut out[n..])
 }
