@@ -4,7 +4,6 @@ mod writer;
 
 pub use reader::read_field;
 pub use reader::read_mutable;
-pub use reader::read_storage;
 pub use reader::read_val;
 pub use writer::walk_field;
 pub use writer::walk_mutable;
