@@ -6,6 +6,7 @@ use lists::Member;
 use lists::read_list;
 use numbers::ReadU32;
 use vals::read_field;
+ghost use Rattle.format.specs.Count.{silent};
 ghost use Rattle.format.specs.Walk.{Walks};
 ghost use Rattle.leb128.specs.Formats.{u32, index};
 ghost use Rattle.texts.specs.Words.{word};
@@ -13,7 +14,7 @@ ghost use Rattle.composites.specs.Composite.{func, bodyWords, bodyBytes,
 
 // Parameters and results.
 fn read_func(b: &[u8], at: usize, out: &mut [u32], s: Done) -> Walk
-    ensures { λ r. ⌜ Walks (bodyBytes func) (bodyWords func .print) (λ x. 9) (now (b .entry)) at (now (out .entry)) s (now (out .exit)) r ⌝ }
+    ensures { λ r. ⌜ Walks (bodyBytes func) (bodyWords func .print) silent (now (b .entry)) at (now (out .entry)) s (now (out .exit)) r ⌝ }
 {
     let Walk::Got(p, t) = read_list(Member::Val, b, at, out, s) else {
         return Walk::No;
@@ -23,7 +24,7 @@ fn read_func(b: &[u8], at: usize, out: &mut [u32], s: Done) -> Walk
 
 // The index of a continuation's function type.
 fn read_cont(b: &[u8], at: usize, out: &mut [u32], s: Done) -> Walk
-    ensures { λ r. ⌜ Walks index (word .print) (λ x. 9) (now (b .entry)) at (now (out .entry)) s (now (out .exit)) r ⌝ }
+    ensures { λ r. ⌜ Walks index (word .print) silent (now (b .entry)) at (now (out .entry)) s (now (out .exit)) r ⌝ }
 {
     let ReadU32::Value(v, p) = numbers::decode_index(b, at) else {
         return Walk::No;
@@ -32,7 +33,7 @@ fn read_cont(b: &[u8], at: usize, out: &mut [u32], s: Done) -> Walk
 }
 
 pub fn read_inner(b: &[u8], at: usize, out: &mut [u32], s: Done) -> Walk
-    ensures { λ r. ⌜ Walks innerBytes (innerWords .print) (λ x. 9) (now (b .entry)) at (now (out .entry)) s (now (out .exit)) r ⌝ }
+    ensures { λ r. ⌜ Walks innerBytes (innerWords .print) silent (now (b .entry)) at (now (out .entry)) s (now (out .exit)) r ⌝ }
 {
     if b.len() <= at {
         return Walk::No;

@@ -6,6 +6,7 @@ use lists::Member;
 use lists::walk_list;
 use numbers::append_index;
 use vals::walk_field;
+ghost use Rattle.format.specs.Count.{silent};
 ghost use Rattle.format.specs.Walk.{Walks};
 ghost use Rattle.leb128.specs.Formats.{u32, index};
 ghost use Rattle.texts.specs.Words.{word};
@@ -13,7 +14,7 @@ ghost use Rattle.composites.specs.Composite.{func, bodyWords, bodyBytes,
 
 // Parameters and results.
 fn walk_func(words: &[u32], at: usize, out: &mut [u8], s: Done) -> Walk
-    ensures { λ r. ⌜ Walks (bodyWords func) (bodyBytes func .print) (λ x. 9) (now (words .entry)) at (now (out .entry)) s (now (out .exit)) r ⌝ }
+    ensures { λ r. ⌜ Walks (bodyWords func) (bodyBytes func .print) silent (now (words .entry)) at (now (out .entry)) s (now (out .exit)) r ⌝ }
 {
     let Walk::Got(p, t) = walk_list(Member::Val, words, at, out, s) else {
         return Walk::No;
@@ -23,7 +24,7 @@ fn walk_func(words: &[u32], at: usize, out: &mut [u8], s: Done) -> Walk
 
 // The index of a continuation's function type.
 fn walk_cont(words: &[u32], at: usize, out: &mut [u8], s: Done) -> Walk
-    ensures { λ r. ⌜ Walks word (index .print) (λ x. 9) (now (words .entry)) at (now (out .entry)) s (now (out .exit)) r ⌝ }
+    ensures { λ r. ⌜ Walks word (index .print) silent (now (words .entry)) at (now (out .entry)) s (now (out .exit)) r ⌝ }
 {
     if words.len() <= at {
         return Walk::No;
@@ -32,7 +33,7 @@ fn walk_cont(words: &[u32], at: usize, out: &mut [u8], s: Done) -> Walk
 }
 
 pub fn walk_inner(words: &[u32], at: usize, out: &mut [u8], s: Done) -> Walk
-    ensures { λ r. ⌜ Walks innerWords (innerBytes .print) (λ x. 9) (now (words .entry)) at (now (out .entry)) s (now (out .exit)) r ⌝ }
+    ensures { λ r. ⌜ Walks innerWords (innerBytes .print) silent (now (words .entry)) at (now (out .entry)) s (now (out .exit)) r ⌝ }
 {
     if words.len() <= at {
         return Walk::No;

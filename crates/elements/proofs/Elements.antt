@@ -1,29 +1,88 @@
 -- The elements of a segment in words: the kind, and functions, or a type and expressions. Assumes nothing.
-use mathlib.Core.Path.{_≡_, refl}
-use mathlib.Core.Bool.{Bool, true, false}
-use mathlib.Core.List.{List, []}
-use Prim.Native.Nat.{ℕ, _+_, min}
-use lib.ListN.{drop}
-use Rattle.format.specs.Parsed.{got}
-use Rattle.format.specs.Basic.{flag}
-use Rattle.format.specs.Count.{adds-nil}
+use mathlib.Core.Path.{_≡_, refl, sym, subst, _∙_}
+use mathlib.Core.Bool.{Bool, true, false, not}
+use mathlib.Core.Option.{none, some}
+use mathlib.Core.List.{List, [], _∷_}
+use Prim.Native.Nat.{ℕ, _+_, _-_, _<_, _≤_, min}
+use native.Mathlib.Omega.{arith}
+use lib.Dec.{eqb}
+use lib.ListN.{length, getD, drop}
+use Rattle.format.specs.Parsed.{got, fail, map-same}
+use Rattle.format.specs.Basic.{bit, flag}
+use Rattle.format.specs.Count.{Adds, silent, adds-nil, adds-seq, adds-eq}
 use Rattle.format.specs.Lists.{many}
+use Rattle.format.specs.Read.{one-read, none-read, too-few}
 use Rattle.format.specs.Sequence.{Joins, leaves, pair-plain, dep-known}
-use Rattle.format.specs.Walk.{Walks, walked-as}
+use Rattle.format.specs.Steps.{nothing-there, value-there, first-missing, second-follows}
+use Rattle.format.specs.Walk.{Walks, walked-as, walks-tail}
 use Rattle.format.specs.declared.Done.{Done}
 use Rattle.format.specs.declared.Walk.{Walk}
+use Rattle.format.specs.declared.Walk.the-variants as walks
+use Rattle.leb128.specs.Formats.{u32}
+use Rattle.texts.specs.Steps.{AreWords}
 use Rattle.texts.specs.Words.{word, span}
 use Rattle.texts.specs.declared.Span.{Span}
-use Rattle.types.specs.Words.{refWords}
+use Rattle.types.specs.Words.{refWords, refOf, refTo}
+use Rattle.types.specs.Bytes.{refBytes}
+use Rattle.types.specs.Vals.{unused}
+use Rattle.types.specs.Answers.{refAns, ref-some, ref-none}
+use Rattle.types.specs.declared.RefRead.{RefRead}
+use Rattle.types.specs.declared.RefRead.the-variants as refs
+use Rattle.types.specs.declared.RefType.{RefType}
+use Rattle.refs.proofs.Words.{ref-two}
 use Rattle.parts.specs.Text.{expression}
 use Rattle.parts.specs.Listed.{textsOf, listed}
-use Rattle.parts.specs.Writing.{itemOf, lowOf, lowest-behind}
+use Rattle.parts.specs.Writing.{Writing, itemOf, lowOf, lowest-behind}
+use Rattle.elements.specs.Item.{flagOf}
+use Rattle.elements.specs.Members.{funcref}
 use Rattle.elements.specs.Segment.{ElementsOf, elementsWordsOf, elementsWords}
-use Rattle.elements.specs.Written.{typeOf, expressionsOf, expressionsLow, elementsFrom, elementsOf, lowFrom, elementsLow}
+use Rattle.elements.specs.Written.{isOther, headOf, typeOf, functionsOf, expressionsOf, expressionsLow, elementsFrom, elementsOf, lowFrom, elementsLow}
+use Rattle.elements.specs.declared.Mode.{Mode}
+use Rattle.elements.specs.declared.Mode.the-variants.{Active}
+use Rattle.elements.proofs.Tags.{unused-joins}
+
+-- ---- the flag
+
+pub other-type : (m : Mode) (e : Bool) (h k : ℕ) → m ≡ Active → e ≡ true → k ≡ refTo funcref .0 → not (eqb h k) ≡ isOther m e h
+other-type m e h k p q z = rw (p, q, z)
+
+module _ {other : Bool} (m : Mode) (e : Bool) {old : List ℕ} {s : Done} {new : List ℕ} {u : Done} where
+  pub other-added : other ≡ true → {cur : List ℕ} {t : Done} → Adds (6 ∷ []) 9 old s cur t → Adds (0 ∷ []) 9 cur t new u → Adds (headOf other m e) 9 old s new u
+  other-added o a b = subst (λ (k : Bool). Adds (headOf k m e) 9 old s new u) (sym o) (adds-seq a b)
+
+  pub flag-added : other ≡ false → {f : ℕ} → f ≡ flagOf m e → Adds (f ∷ []) 9 old s new u → Adds (headOf other m e) 9 old s new u
+  flag-added o f a = subst (λ (k : Bool). Adds (headOf k m e) 9 old s new u) (sym o) (subst (λ (n : ℕ). Adds (n ∷ []) 9 old s new u) f a)
+
+-- ---- the type
+
+module _ (said : Bool) {w : List ℕ} {at : ℕ} {old : List ℕ} {s : Done} where
+  pub type-said : said ≡ true → {new : List ℕ} {r : Walk} → Walks refWords (refBytes .print) silent w at old s new r → Walks refWords (typeOf said) silent w at old s new r
+  type-said t {new} {r} x = subst (λ (k : Bool). Walks refWords (typeOf k) silent w at old s new r) (sym t) x
+
+  module _ {new : List ℕ} where
+    few : length w < at + 2 → Walks refWords (typeOf said) silent w at old s new walks.No
+    few h = nothing-there (too-few refWords 2 (omega arith) (λ r ok. omega arith) w at h)
+
+    pub type-end : length w ≤ at → Walks refWords (typeOf said) silent w at old s new walks.No
+    type-end h = few (omega arith)
+
+    pub type-short : at < length w → length w - at < 2 → Walks refWords (typeOf said) silent w at old s new walks.No
+    type-short h k = few (omega arith)
+
+  module _ (h : at < length w) (k : 2 ≤ length w - at) {found : RefRead} (d : found ≡ refAns (refOf (getD w at 0, getD w (at + 1) 0))) where
+    pub type-none : {new : List ℕ} → found ≡ refs.No → AreWords w → Walks refWords (typeOf said) silent w at old s new walks.No
+    type-none e i =
+        nothing-there (ref-two w at (omega arith) (i at .fits) (i (at + 1) .fits) none (ref-none (refOf (getD w at 0, getD w (at + 1) 0)) (sym d ∙ e)))
+
+    pub type-there : said ≡ false → {x : RefType} → found ≡ refs.Ref x → AreWords w → Walks refWords (typeOf said) silent w at old s old (walks.Got (at + 2) s)
+    type-there t {x} e i =
+        subst (λ (j : Bool). Walks refWords (typeOf j) silent w at old s old (walks.Got (at + 2) s)) (sym t)
+        (value-there {a = x} (adds-nil old s) (ref-two w at (omega arith) (i at .fits) (i (at + 1) .fits) (some x) (ref-some (refOf (getD w at 0, getD w (at + 1) 0)) x (sym d ∙ e))) (omega arith))
+
+-- ---- a type, and expressions
 
 module _ (said : Bool) (t : List ℕ) where
-  -- a type, and expressions
-  pub expressions-joins : Joins (refWords .parse) (typeOf said) (λ r. 9) (many word span .parse) (itemOf (listed expression) t) (lowOf (listed expression) t)
+  expressions-joins : Joins (refWords .parse) (typeOf said) silent (many word span .parse) (itemOf (listed expression) t) (lowOf (listed expression) t)
       (elementsWordsOf true .parse) (expressionsOf said t) (expressionsLow t)
   expressions-joins =
       record {
@@ -34,13 +93,58 @@ module _ (said : Bool) (t : List ℕ) where
         draws = λ r xs. lowest-behind t (textsOf expression xs);
       }
 
-  low-none : (e : Bool) (q : ElementsOf e Span) → min 9 (lowFrom t e q) ≡ lowFrom t e q
-  low-none false q = refl
-  low-none true q = lowest-behind t (textsOf expression (q .1))
+  module _ {w : List ℕ} {at : ℕ} {old : List ℕ} {s : Done} {new : List ℕ} {r : Walk} where
+    pub type-missing : Walks refWords (typeOf said) silent w at old s new r → r ≡ walks.No → Walks (elementsWordsOf true) (expressionsOf said t) (expressionsLow t) w at old s new walks.No
+    type-missing x e = first-missing expressions-joins x e
 
-  -- behind their kind
-  pub elements-known : (e : Bool) (w : List ℕ) (at : ℕ) (old : List ℕ) (s : Done) (new : List ℕ) (r : Walk) → flag .parse (drop at w) ≡ got e (drop (at + 1) w)
-      → Walks (elementsWordsOf e) (elementsFrom said t e) (lowFrom t e) w (at + 1) old s new r → Walks elementsWords (elementsOf said t) (elementsLow t) w at old s new r
-  elements-known e w at old s new r p x =
-      walked-as (elementsFrom said t e) (lowFrom t e) (elementsOf said t) (elementsLow t) (λ q. (e, q)) [] 9 w (elementsWordsOf e .parse (drop (at + 1) w))
-      (elementsWords .parse (drop at w)) old s old s new r (dep-known flag elementsWordsOf e (drop at w) (drop (at + 1) w) p) (λ q z i. refl) (low-none e) (adds-nil old s) x
+    pub type-then-list : {cur : List ℕ} {p : ℕ} {u : Done} {r′ : Walk} → Walks refWords (typeOf said) silent w at old s cur r → r ≡ walks.Got p u
+        → Writing (listed expression) t w p cur u new r′ → Walks (elementsWordsOf true) (expressionsOf said t) (expressionsLow t) w at old s new r′
+    type-then-list x e y = second-follows expressions-joins x e (y .writes)
+
+-- ---- two unused words, and functions
+
+module _ (said : Bool) {w : List ℕ} {at : ℕ} {old : List ℕ} {s : Done} {r : Walk} (x : (o : List ℕ) → Walks unused (λ u. []) silent w at o s o r) where
+  pub unused-missing : r ≡ walks.No → Walks (elementsWordsOf false) (functionsOf said) silent w at old s old walks.No
+  unused-missing e = first-missing (unused-joins (many word word) (functionsOf said)) (x old) e
+
+  module _ {p : ℕ} {u : Done} (e : r ≡ walks.Got p u) {new : List ℕ} {r′ : Walk} where
+    then-functions : (k : Bool) → said ≡ k → Walks (many word word) (functionsOf k) silent w p old u new r′ → Walks (elementsWordsOf false) (functionsOf said) silent w at old s new r′
+    then-functions k t y =
+        subst (λ (j : Bool). Walks (elementsWordsOf false) (functionsOf j) silent w at old s new r′) (sym t) (second-follows (unused-joins (many word word) (functionsOf k)) (x old) e y)
+
+    pub then-said-functions : said ≡ true → {cur : List ℕ} {v : Done} → Adds (0x00 ∷ []) 9 old u cur v → Walks (many word word) (many u32 u32 .print) silent w p cur v new r′
+        → Walks (elementsWordsOf false) (functionsOf said) silent w at old s new r′
+    then-said-functions t {cur} {v} a y =
+        then-functions true t
+        (walks-tail (many word word) (many u32 u32 .print) silent (many word word) (functionsOf true) silent (λ x. x) (0x00 ∷ []) 9 w p p old u cur v new r′ (map-same (many word word .parse (drop p w))) (λ x. refl) (λ x. refl) a y)
+
+    pub then-bare-functions : said ≡ false → Walks (many word word) (many u32 u32 .print) silent w p old u new r′ → Walks (elementsWordsOf false) (functionsOf said) silent w at old s new r′
+    then-bare-functions t y = then-functions false t y
+
+-- ---- behind their kind
+
+low-none : (t : List ℕ) (e : Bool) (q : ElementsOf e Span) → min 9 (lowFrom t e q) ≡ lowFrom t e q
+low-none t false q = refl
+low-none t true q = lowest-behind t (textsOf expression (q .1))
+
+module _ (said : Bool) (t : List ℕ) {w : List ℕ} {at : ℕ} {old : List ℕ} {s : Done} {new : List ℕ} (h : at < length w) where
+  module _ {r : Walk} where
+    kind-known : (e : Bool) → getD w at 0 ≡ bit e → Walks (elementsWordsOf e) (elementsFrom said t e) (lowFrom t e) w (at + 1) old s new r
+        → Walks elementsWords (elementsOf said t) (elementsLow t) w at old s new r
+    kind-known e k x =
+        record {
+          walked = walked-as (elementsFrom said t e) (lowFrom t e) (elementsOf said t) (elementsLow t) (λ q. (e, q)) [] 9 w (elementsWordsOf e .parse (drop (at + 1) w))
+              (elementsWords .parse (drop at w)) old s old s new r (dep-known flag elementsWordsOf e (drop at w) (drop (at + 1) w) (one-read flag e (bit e) tt refl w at h k)) (λ q z i. refl)
+              (low-none t e) (adds-nil old s) (x .walked);
+        }
+
+    pub functions-kind : getD w at 0 ≡ 0 → Walks (elementsWordsOf false) (functionsOf said) silent w (at + 1) old s new r
+        → Walks elementsWords (elementsOf said t) (elementsLow t) w at old s new r
+    functions-kind k x = kind-known false k x
+
+    pub expressions-kind : getD w at 0 ≡ 1 → Walks (elementsWordsOf true) (expressionsOf said t) (expressionsLow t) w (at + 1) old s new r
+        → Walks elementsWords (elementsOf said t) (elementsLow t) w at old s new r
+    expressions-kind k x = kind-known true k x
+
+  pub no-kind : (getD w at 0 ≡ 0 → ⊥) → (getD w at 0 ≡ 1 → ⊥) → Walks elementsWords (elementsOf said t) (elementsLow t) w at old s new walks.No
+  no-kind a b = nothing-there (rw (none-read flag bit (λ k. refl) w at h (elim [ true ↦ b | false ↦ a ])))

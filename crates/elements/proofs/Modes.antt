@@ -1,20 +1,17 @@
 -- The mode at a place, and what depends on a mode that is known. Assumes nothing.
-use mathlib.Core.Path.{_≡_, refl, sym, ap, subst, _∙_}
-use mathlib.Core.Bool.{Bool}
+use mathlib.Core.Path.{_≡_, refl, sym, ap, _∙_}
 use mathlib.Core.List.{List, [], _∷_, _++_}
-use Prim.Native.Nat.{ℕ, _+_, _≤_}
+use Prim.Native.Nat.{ℕ, suc, _+_, _-_, _<_, _≤_}
 use native.Mathlib.Omega.{arith}
+use lib.Dec.{leb}
 use lib.ListN.{length, getD, drop}
 use Rattle.format.specs.Parsed.{Parsed, fail, got}
 use Rattle.format.specs.Format.{refuses}
-use Rattle.format.specs.Read.{drop-two, read-on, begins}
-use Rattle.format.specs.declared.Done.{Done}
-use Rattle.format.specs.declared.Walk.{Walk}
-use Rattle.parts.specs.Writing.{Writing}
-use Rattle.parts.specs.Reading.{Reading}
-use Rattle.elements.specs.Mode.{modeWords, mode-ok, modeRead, place}
-use Rattle.elements.specs.Members.{members}
+use Rattle.format.specs.Read.{drop-two, read-on, begins, too-few}
+use Rattle.elements.specs.Mode.{modeWords, mode-ok, modeRead}
+use Rattle.elements.specs.Item.{flagOf}
 use Rattle.elements.specs.declared.Mode.{Mode}
+use Rattle.elements.specs.declared.ModeRead.{ModeRead}
 use Rattle.elements.specs.declared.ModeRead.the-variants as modes
 use Rattle.elements.specs.declared.Mode.the-variants.{Active, Passive, ActiveTable, Declared}
 
@@ -24,14 +21,14 @@ mode-long = elim [ Active ↦ refl | Passive ↦ refl | ActiveTable ↦ refl | D
 
 -- what an answer tells
 module _ (w : List ℕ) (at : ℕ) where
-  pub mode-not : modeRead (modeWords .parse (drop at w)) ≡ modes.No → modeWords .parse (drop at w) ≡ fail
+  mode-not : modeRead (modeWords .parse (drop at w)) ≡ modes.No → modeWords .parse (drop at w) ≡ fail
   mode-not e = go (modeWords .parse (drop at w)) e
     where
       go : (k : Parsed Mode) → modeRead k ≡ modes.No → k ≡ fail
       go fail q = refl
       go (got m r) q = let z : _≡_ {A = ℕ} 0 1 = cc in absurd (omega arith)
 
-  pub mode-is : (m : Mode) → modeRead (modeWords .parse (drop at w)) ≡ modes.Is m → (modeWords .parse (drop at w) ≡ got m (drop (at + 2) w)) × (at + 2 ≤ length w)
+  mode-is : (m : Mode) → modeRead (modeWords .parse (drop at w)) ≡ modes.Is m → (modeWords .parse (drop at w) ≡ got m (drop (at + 2) w)) × (at + 2 ≤ length w)
   mode-is m e = go (modeWords .parse (drop at w)) refl e
     where
       go : (k : Parsed Mode) → modeWords .parse (drop at w) ≡ k → modeRead k ≡ modes.Is m → (modeWords .parse (drop at w) ≡ got m (drop (at + 2) w)) × (at + 2 ≤ length w)
@@ -45,12 +42,12 @@ module _ (w : List ℕ) (at : ℕ) where
 
 -- which two words are a mode's, and which are not
 module _ (w : List ℕ) (at : ℕ) (h : at + 2 ≤ length w) where
-  pub is-mode : (m : Mode) → getD w at 0 ∷ getD w (at + 1) 0 ∷ [] ≡ modeWords .print m → modes.Is m ≡ modeRead (modeWords .parse (drop at w))
+  is-mode : (m : Mode) → getD w at 0 ∷ getD w (at + 1) 0 ∷ [] ≡ modeWords .print m → modes.Is m ≡ modeRead (modeWords .parse (drop at w))
   is-mode m e =
       let d : drop at w ≡ modeWords .print m ++ drop (at + 2) w = drop-two w at h ∙ ap (λ (l : List ℕ). l ++ drop (at + 2) w) e in
       sym (ap modeRead (ap (modeWords .parse) d ∙ modeWords .back m (drop (at + 2) w) (mode-ok m)))
 
-  pub no-mode : (getD w at 0 ≡ 2 → getD w (at + 1) 0 ≤ 1 → ⊥) → (getD w at 0 ≤ 1 → getD w (at + 1) 0 ≡ 0 → ⊥) → modes.No ≡ modeRead (modeWords .parse (drop at w))
+  no-mode : (getD w at 0 ≡ 2 → getD w (at + 1) 0 ≤ 1 → ⊥) → (getD w at 0 ≤ 1 → getD w (at + 1) 0 ≡ 0 → ⊥) → modes.No ≡ modeRead (modeWords .parse (drop at w))
   no-mode n o = sym (ap modeRead (refuses modeWords (drop at w) .1 (λ m r ok e. go m r (sym (drop-two w at h) ∙ e))))
     where
       go : (m : Mode) (r : List ℕ) → getD w at 0 ∷ getD w (at + 1) 0 ∷ drop (at + 2) w ≡ modeWords .print m ++ r → ⊥
@@ -59,13 +56,68 @@ module _ (w : List ℕ) (at : ℕ) (h : at + 2 ≤ length w) where
       go Passive r e = o (let q : getD w at 0 ≡ 0 = cc in omega arith) (cc)
       go Declared r e = o (let q : getD w at 0 ≡ 1 = cc in omega arith) (cc)
 
-module _ (m n : Mode) (e : m ≡ n) (t : List ℕ) (at : ℕ) (old : List ℕ) (s : Done) (new : List ℕ) (r : Walk) where
-  pub as-writing : (w : List ℕ) → Writing (place n) t w at old s new r → Writing (place m) t w at old s new r
-  as-writing w x = subst (λ (k : Mode). Writing (place k) t w at old s new r) (sym e) x
+-- ---- what the code has looked at
 
-  pub as-reading : Reading (place n) t at old s new r → Reading (place m) t at old s new r
-  as-reading x = subst (λ (k : Mode). Reading (place k) t at old s new r) (sym e) x
+module _ (w : List ℕ) (at : ℕ) where
+  few : length w < at + 2 → modes.No ≡ modeRead (modeWords .parse (drop at w))
+  few h = sym (ap modeRead (too-few modeWords 2 (omega arith) (λ m ok. omega (arith, mode-long m)) w at h))
 
-pub as-members : (e k l : Bool) → k ≡ l → (b : List ℕ) (at : ℕ) (old : List ℕ) (s : Done) (new : List ℕ) (r : Walk) → Reading (members e l) b at old s new r
-    → Reading (members e k) b at old s new r
-as-members e k l p b at old s new r x = subst (λ (i : Bool). Reading (members e i) b at old s new r) (sym p) x
+  pub mode-end : length w ≤ at → modes.No ≡ modeRead (modeWords .parse (drop at w))
+  mode-end h = few (omega arith)
+
+  module _ (h : at < length w) where
+    pub mode-short : length w - at < 2 → modes.No ≡ modeRead (modeWords .parse (drop at w))
+    mode-short k = few (omega arith)
+
+    module _ (k : 2 ≤ length w - at) where
+      two : at + 2 ≤ length w
+      two = omega arith
+
+      mode-known : (m : Mode) (x y : ℕ) → x ∷ y ∷ [] ≡ modeWords .print m → getD w at 0 ≡ x → getD w (at + 1) 0 ≡ y → modes.Is m ≡ modeRead (modeWords .parse (drop at w))
+      mode-known m x y e p q = is-mode w at two m (rw (p, q) e)
+
+      pub mode-active : getD w at 0 ≡ 2 → getD w (at + 1) 0 ≡ 0 → modes.Is Active ≡ modeRead (modeWords .parse (drop at w))
+      mode-active p q = mode-known Active 2 0 refl p q
+
+      pub mode-table : getD w at 0 ≡ 2 → getD w (at + 1) 0 ≡ 1 → modes.Is ActiveTable ≡ modeRead (modeWords .parse (drop at w))
+      mode-table p q = mode-known ActiveTable 2 1 refl p q
+
+      pub mode-passive : getD w at 0 ≡ 0 → getD w (at + 1) 0 ≡ 0 → modes.Is Passive ≡ modeRead (modeWords .parse (drop at w))
+      mode-passive p q = mode-known Passive 0 0 refl p q
+
+      pub mode-declared : getD w at 0 ≡ 1 → getD w (at + 1) 0 ≡ 0 → modes.Is Declared ≡ modeRead (modeWords .parse (drop at w))
+      mode-declared p q = mode-known Declared 1 0 refl p q
+
+      pub no-table-flag : getD w at 0 ≡ 2 → (getD w (at + 1) 0 ≡ 0 → ⊥) → (getD w (at + 1) 0 ≡ 1 → ⊥) → modes.No ≡ modeRead (modeWords .parse (drop at w))
+      no-table-flag e a b = no-mode w at two (λ p q. omega (arith, a, b)) (λ p q. omega arith)
+
+      module _ (n : getD w at 0 ≡ 2 → ⊥) where
+        pub table-flag-set : (getD w (at + 1) 0 ≡ 0 → ⊥) → modes.No ≡ modeRead (modeWords .parse (drop at w))
+        table-flag-set a = no-mode w at two (λ p q. n p) (λ p q. a q)
+
+        pub no-mode-word : (getD w at 0 ≡ 0 → ⊥) → (getD w at 0 ≡ 1 → ⊥) → modes.No ≡ modeRead (modeWords .parse (drop at w))
+        no-mode-word a b = no-mode w at two (λ p q. n p) (λ p q. omega (arith, a, b))
+
+-- ---- what an answer told
+
+module _ (w : List ℕ) (at : ℕ) {found : ModeRead} (d : found ≡ modeRead (modeWords .parse (drop at w))) where
+  pub mode-missing : found ≡ modes.No → modeWords .parse (drop at w) ≡ fail
+  mode-missing e = mode-not w at (sym d ∙ e)
+
+  module _ {m : Mode} (e : found ≡ modes.Is m) where
+    pub mode-found : modeWords .parse (drop at w) ≡ got m (drop (at + 2) w)
+    mode-found = mode-is w at m (sym d ∙ e) .0
+
+    pub mode-within : at ≤ length w
+    mode-within = omega (arith, mode-is w at m (sym d ∙ e) .1)
+
+-- ---- a flag that is none of 0 to 6 is 7
+
+past : (n f : ℕ) → n ≤ f → (f ≡ n → ⊥) → suc n ≤ f
+past n f h k = omega arith
+
+pub last-flag : (f : ℕ) → f ≤ 7 → (f ≡ 0 → ⊥) → (f ≡ 1 → ⊥) → (f ≡ 2 → ⊥) → (f ≡ 3 → ⊥) → (f ≡ 4 → ⊥) → (f ≡ 5 → ⊥) → (f ≡ 6 → ⊥) → flagOf Declared (leb 4 f) ≡ f
+last-flag f k a b c d e g i =
+    let h : 7 ≤ f = past 6 f (past 5 f (past 4 f (past 3 f (past 2 f (past 1 f (past 0 f (omega arith) a) b) c) d) e) g) i in
+    let z : f ≡ 7 = omega arith in
+    rw z

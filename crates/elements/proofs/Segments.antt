@@ -2,7 +2,7 @@
 use mathlib.Core.Path.{_≡_, refl, sym, ap, subst, _∙_}
 use mathlib.Core.Bool.{Bool, true, false}
 use mathlib.Core.List.{List, _++_}
-use Prim.Native.Nat.{ℕ, _+_, _≤_, min}
+use Prim.Native.Nat.{ℕ, _+_, _-_, _<_, _≤_, min}
 use native.Mathlib.Omega.{arith}
 use lib.Dec.{eqb}
 use lib.ListN.{length, getD, drop, length-append}
@@ -12,19 +12,24 @@ use Rattle.format.specs.Format.{Format}
 use Rattle.format.specs.Basic.{bit, eqb-bit, flag}
 use Rattle.format.specs.Combine.{pair}
 use Rattle.format.specs.Count.{Adds}
+use Rattle.format.specs.Read.{too-few}
 use Rattle.format.specs.Sequence.{Joins, leaves, pair-plain, dep-known}
+use Rattle.format.specs.Steps.{nothing-there, first-missing, second-follows}
 use Rattle.format.specs.Walk.{Walks, walked-as}
 use Rattle.format.specs.declared.Done.{Done}
 use Rattle.format.specs.declared.Walk.{Walk}
+use Rattle.format.specs.declared.Walk.the-variants as walks
 use Rattle.texts.specs.declared.Span.{Span}
 use Rattle.parts.specs.Writing.{Writing, itemOf, lowOf, lowest-behind}
-use Rattle.elements.specs.Mode.{modeWords, PlaceOf, place}
+use Rattle.elements.specs.Mode.{modeWords, modeRead, PlaceOf, place}
 use Rattle.elements.specs.Segment.{ElementsOf, Elements, Segment, elementsWordsOf, elementsWords, words}
 use Rattle.elements.specs.Written.{isOther, headOf, isSaid, elementsOf, elementsLow, headWord, item-written, low-written}
 use Rattle.elements.specs.Section.{elementSection}
 use Rattle.elements.specs.declared.Mode.{Mode}
+use Rattle.elements.specs.declared.ModeRead.{ModeRead}
+use Rattle.elements.specs.declared.ModeRead.the-variants as modes
 use Rattle.elements.specs.declared.Mode.the-variants.{Active, Passive, ActiveTable, Declared}
-use Rattle.elements.proofs.Modes.{mode-long}
+use Rattle.elements.proofs.Modes.{mode-long, mode-missing, mode-found, mode-within}
 
 -- ---- a segment takes eight words at least
 
@@ -38,7 +43,7 @@ elements-long : (e : Bool) (y : ElementsOf e Span) → 2 ≤ length (elementsWor
 elements-long false y = omega arith
 elements-long true y = omega arith
 
-pub segment-long : (a : Segment Span) → 8 ≤ length (words .print a)
+segment-long : (a : Segment Span) → 8 ≤ length (words .print a)
 segment-long a =
     let m = modeWords .print (a .0) in
     let p = place (a .0) .words .print (a .1 .0) in
@@ -57,7 +62,7 @@ module _ (t : List ℕ) (m : Mode) (said : Bool) where
   abbrev pub restLow : PlaceOf m Span × Elements Span → ℕ
   restLow q = min (lowOf (place m) t (q .0)) (elementsLow t (q .1))
 
-  pub rest-joins : Joins (place m .words .parse) (itemOf (place m) t) (lowOf (place m) t) (elementsWords .parse) (elementsOf said t) (elementsLow t) (restWords m .parse) restOf restLow
+  rest-joins : Joins (place m .words .parse) (itemOf (place m) t) (lowOf (place m) t) (elementsWords .parse) (elementsOf said t) (elementsLow t) (restWords m .parse) restOf restLow
   rest-joins =
       record {
         ends = leaves (place m .words);
@@ -110,11 +115,35 @@ module _ (t w : List ℕ) (at : ℕ) (m : Mode) (is : modeWords .parse (drop at 
   low-is : (q : PlaceOf m Span × Elements Span) → min 9 (restLow t m (isSaid other m) q) ≡ lowOf elementSection t (m, q)
   low-is q = ap (min 9) (low-written t m (q .0) (q .1 .0) (q .1 .1)) ∙ lowest-behind t (elementSection .texts (m, q))
 
-  pub segment-walks : (o said : Bool) → o ≡ other → said ≡ isSaid o m → (old : List ℕ) (s : Done) (cur : List ℕ) (u : Done) (new : List ℕ) (r : Walk)
+  segment-walks : (o said : Bool) → o ≡ other → said ≡ isSaid o m → (old : List ℕ) (s : Done) (cur : List ℕ) (u : Done) (new : List ℕ) (r : Walk)
       → Adds (headOf o m kind) 9 old s cur u → Walks (restWords m) (restOf t m said) (restLow t m said) w (at + 2) cur u new r → Writing elementSection t w at old s new r
   segment-walks o said oe se old s cur u new r a x =
       let si : said ≡ isSaid other m = se ∙ ap (λ (k : Bool). isSaid k m) oe in
-      walked-as (restOf t m (isSaid other m)) (restLow t m (isSaid other m)) (itemOf elementSection t) (lowOf elementSection t) (λ q. (m, q)) (headOf other m kind) 9 w
-      (restWords m .parse (drop (at + 2) w)) (words .parse (drop at w)) old s cur u new r (dep-known modeWords restWords m (drop at w) (drop (at + 2) w) is)
-      (λ q z e. item-is (q .0) (q .1 .0) (q .1 .1) z e) low-is (subst (λ (k : Bool). Adds (headOf k m kind) 9 old s cur u) oe a)
-      (subst (λ (k : Bool). Walks (restWords m) (restOf t m k) (restLow t m k) w (at + 2) cur u new r) si x)
+      record {
+        writes = record {
+          walked = walked-as (restOf t m (isSaid other m)) (restLow t m (isSaid other m)) (itemOf elementSection t) (lowOf elementSection t) (λ q. (m, q)) (headOf other m kind) 9 w
+              (restWords m .parse (drop (at + 2) w)) (words .parse (drop at w)) old s cur u new r (dep-known modeWords restWords m (drop at w) (drop (at + 2) w) is)
+              (λ q z e. item-is (q .0) (q .1 .0) (q .1 .1) z e) low-is (subst (λ (k : Bool). Adds (headOf k m kind) 9 old s cur u) oe a)
+              (subst (λ (k : Bool). Walks (restWords m) (restOf t m k) (restLow t m k) w (at + 2) cur u new r) si x .walked);
+        };
+      }
+
+-- ---- what the code has read
+
+module _ {t w : List ℕ} {at : ℕ} {old : List ℕ} {s : Done} {new : List ℕ} {found : ModeRead} (d : found ≡ modeRead (modeWords .parse (drop at w))) where
+  pub no-mode-there : found ≡ modes.No → Writing elementSection t w at old s new walks.No
+  no-mode-there e = record { writes = nothing-there (rw (mode-missing w at d e)) }
+
+  module _ {m : Mode} (e : found ≡ modes.Is m) where
+    pub segment-short : length w - at < 8 → Writing elementSection t w at old s new walks.No
+    segment-short k = record { writes = nothing-there (too-few words 8 (omega arith) (λ x ok. segment-long x) w at (omega (arith, mode-within w at d e))) }
+
+    module _ {o : Bool} (oe : o ≡ isOther m (eqb (getD w (at + 5) 0) 1) (getD w (at + 6) 0)) {cur : List ℕ} {u : Done} (a : Adds (headOf o m (eqb (getD w (at + 5) 0) 1)) 9 old s cur u) where
+      pub place-missing : {r : Walk} → Writing (place m) t w (at + 2) cur u new r → r ≡ walks.No → Writing elementSection t w at old s new walks.No
+      place-missing x q =
+          segment-walks t w at m (mode-found w at d e) o (isSaid o m) oe refl old s cur u new walks.No a (first-missing (rest-joins t m (isSaid o m)) (x .writes) q)
+
+      pub elements-follow : {mid : List ℕ} {r : Walk} {p : ℕ} {v : Done} {said : Bool} {r′ : Walk} → Writing (place m) t w (at + 2) cur u mid r → r ≡ walks.Got p v → said ≡ isSaid o m
+          → Walks elementsWords (elementsOf said t) (elementsLow t) w p mid v new r′ → Writing elementSection t w at old s new r′
+      elements-follow {said = said} {r′} x q i y =
+          segment-walks t w at m (mode-found w at d e) o said oe i old s cur u new r′ a (second-follows (rest-joins t m said) (x .writes) q y)

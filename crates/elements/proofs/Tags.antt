@@ -10,7 +10,7 @@ use borrow.Author.Tests.{eq-eqb, ne-eqb}
 use Rattle.format.specs.Parsed.{Parsed, fail, bind, map, map-same}
 use Rattle.format.specs.Format.{Format}
 use Rattle.format.specs.Basic.{tag, lit}
-use Rattle.format.specs.Count.{Adds}
+use Rattle.format.specs.Count.{Adds, silent}
 use Rattle.format.specs.Read.{drop-more, drop-end}
 use Rattle.format.specs.Sequence.{Joins, leaves}
 use Rattle.format.specs.Walk.{Walked, Walks, walks-tail}
@@ -32,13 +32,13 @@ module _ {A : Type 0} (k : ℕ) (F : Format A) (w : List ℕ) (at : ℕ) where
     pub tag-not : (getD w at 0 ≡ k → ⊥) → tag k F .parse (drop at w) ≡ fail
     tag-not n = rw (drop-more w at h, ne-eqb (getD w at 0) k n)
 
-    pub tag-is : getD w at 0 ≡ k → tag k F .parse (drop at w) ≡ F .parse (drop (at + 1) w)
+    tag-is : getD w at 0 ≡ k → tag k F .parse (drop at w) ≡ F .parse (drop (at + 1) w)
     tag-is e = rw (stands k w at h e, eq-eqb k k refl)
 
     -- where it stands, a walk behind it is one from it on
-    pub tag-walks : (f : A → List ℕ) (g : A → ℕ) (old : List ℕ) (s : Done) (new : List ℕ) (r : Walk) → getD w at 0 ≡ k → Walks F f g w (at + 1) old s new r
+    pub tag-walks : {f : A → List ℕ} {g : A → ℕ} {old : List ℕ} {s : Done} {new : List ℕ} {r : Walk} → getD w at 0 ≡ k → Walks F f g w (at + 1) old s new r
         → Walks (tag k F) f g w at old s new r
-    tag-walks f g old s new r e x = subst (λ (m : Parsed A). Walked f g w m old s new r) (sym (tag-is e)) x
+    tag-walks {f} {g} {old} {s} {new} {r} e x = record { walked = subst (λ (m : Parsed A). Walked f g w m old s new r) (sym (tag-is e)) (x .walked) }
 
 -- two unused words, and then a value
 module _ {A : Type 0} (F : Format A) (f : A → List ℕ) where
@@ -57,16 +57,18 @@ module _ {A : Type 0} (F : Format A) (f : A → List ℕ) where
   both [] = refl
   both (x ∷ s) = pass (eqb x 0) _ _ (second s)
 
-  pub unused-joins : Joins (unused .parse) (λ u. []) (λ u. 9) (F .parse) f (λ x. 9) (tag 0 (tag 0 F) .parse) f (λ x. 9)
+  pub unused-joins : Joins (unused .parse) (λ u. []) silent (F .parse) f silent (tag 0 (tag 0 F) .parse) f silent
   unused-joins = record { ends = leaves unused; join = λ u x. x; reads = both; writes = λ u x. refl; draws = λ u x. refl }
 
 -- T reads the bytes that S reads, and has the words pre before those of S
 pub words-before : {A C B : Type 0} (S : Section A B) (T : Section C B) (pre : List ℕ) → ((s : List ℕ) → T .bytes .parse s ≡ S .bytes .parse s)
-    → ((n : ℕ) (x : B) → pre ++ recordAt S n x ≡ recordAt T n x) → (b : List ℕ) (at : ℕ) (old : List ℕ) (s : Done) (cur : List ℕ) (u : Done) (new : List ℕ) (r : Walk)
+    → ((n : ℕ) (x : B) → pre ++ recordAt S n x ≡ recordAt T n x) → {b : List ℕ} {at : ℕ} {old : List ℕ} {s : Done} {cur : List ℕ} {u : Done} {new : List ℕ} {r : Walk}
     → Adds pre 9 old s cur u → Reading S b at cur u new r → Reading T b at old s new r
-words-before S T pre e w b at old s cur u new r a x h =
-    walks-tail (S .bytes) (recordAt S at) (λ y. 9) (T .bytes) (recordAt T at) (λ y. 9) (λ y. y) pre 9 b at at old s cur u new r
-    (rw (e (drop at b)) (map-same (S .bytes .parse (drop at b)))) (w at) (λ y. refl) a (x h)
+words-before S T pre e w {b} {at} {old} {s} {cur} {u} {new} {r} a x =
+    record {
+      reads = λ h. walks-tail (S .bytes) (recordAt S at) silent (T .bytes) (recordAt T at) silent (λ y. y) pre 9 b at at old s cur u new r
+          (rw (e (drop at b)) (map-same (S .bytes .parse (drop at b)))) (w at) (λ y. refl) a (x .reads h);
+    }
 
 -- an expression takes a byte at least
 pub expr-long : {e : List ℕ} → Expr e → 0 < length e

@@ -18,7 +18,7 @@ ghost use mathlib.Core.Bool.{false, true};
 ghost use mathlib.Core.List.{List};
 ghost use Prim.Native.Nat.{ℕ, _≤_};
 ghost use lib.ListN.{length, drop};
-ghost use Rattle.format.specs.Count.{Adds};
+ghost use Rattle.format.specs.Count.{Adds, silent};
 ghost use Rattle.format.specs.Walk.{Walks};
 ghost use Rattle.types.specs.Words.{refWords};
 ghost use Rattle.parts.specs.Text.{expression};
@@ -168,7 +168,7 @@ fn walk_place(m: Mode, words: &[u32], at: usize, text: &[u8], out: &mut [u8], s:
 
 // Two unused words, 00 where the kind is said, and the list of indices.
 fn walk_functions(said: bool, words: &[u32], at: usize, out: &mut [u8], s: Done) -> Walk
-    ensures { λ r. ⌜ Walks (elementsWordsOf false) (functionsOf said) (λ x. 9) (now (words .entry)) at (now (out .entry)) s (now (out .exit)) r ⌝ }
+    ensures { λ r. ⌜ Walks (elementsWordsOf false) (functionsOf said) silent (now (words .entry)) at (now (out .entry)) s (now (out .exit)) r ⌝ }
 {
     let Walk::Got(p, t) = walk_unused(words, at, s) else {
         return Walk::No;
@@ -182,7 +182,7 @@ fn walk_functions(said: bool, words: &[u32], at: usize, out: &mut [u8], s: Done)
 
 // The reference type, which is written where it is said.
 fn walk_type(said: bool, words: &[u32], at: usize, out: &mut [u8], s: Done) -> Walk
-    ensures { λ r. ⌜ Walks refWords (typeOf said) (λ x. 9) (now (words .entry)) at (now (out .entry)) s (now (out .exit)) r ⌝ }
+    ensures { λ r. ⌜ Walks refWords (typeOf said) silent (now (words .entry)) at (now (out .entry)) s (now (out .exit)) r ⌝ }
 {
     if said {
         return walk_ref(words, at, out, s);

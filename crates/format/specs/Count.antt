@@ -12,6 +12,14 @@ use Rattle.format.specs.Write.{over, Writes, wrote, rest-lent, rest-back
 use Rattle.format.specs.declared.Written.{Written}
 use Rattle.format.specs.declared.Done.{Done}
 
+-- 9 stands for no refusal
+abbrev pub noRefusal : ℕ
+noRefusal = 9
+
+-- what draws none
+abbrev pub silent : {A : Type 0} → A → ℕ
+silent a = noRefusal
+
 -- 65,537 stands for all that is more than 65,536
 abbrev pub counted : ℕ → ℕ
 counted n = min n 65537

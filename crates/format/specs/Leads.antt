@@ -6,7 +6,6 @@ use mathlib.Core.Bool.{Bool, true, false, _||_, true≢false}
 use mathlib.Core.Option.{Option, none, some}
 use mathlib.Core.List.{List, [], _∷_, _++_, append-assoc}
 use Prim.Native.Nat.{ℕ}
-use lib.ListN.{drop}
 use borrow.Author.Tests.{ne-eqb, eq-eqb, eqb-true}
 use Rattle.format.specs.Parsed.{Parsed, fail, got, got-rest, fail-got, bind, bind-inv, map, map-inv, fromOption, fromOption-inv}
 use Rattle.format.specs.Format.{Format}
@@ -14,7 +13,7 @@ use Rattle.format.specs.Basic.{Part, empty}
 use Rattle.format.specs.Alternatives.{Heads, is}
 use Rattle.format.specs.Answers.{neither}
 use Rattle.format.specs.Sequence.{Joins, joins-map}
-use Rattle.format.specs.Walk.{Walked}
+use Rattle.format.specs.Walk.{Walking}
 use Rattle.format.specs.declared.Done.{Done}
 use Rattle.format.specs.declared.Walk.{Walk}
 
@@ -73,7 +72,7 @@ module _ {A B : Type 0} (L : Lead A) (G : Format B) where
 
 -- a walk over a lead: it is read, or missing, and what is written of it is appended
 abbrev pub LeadWalks : {A : Type 0} → Lead A → (A → List ℕ) → List ℕ → ℕ → List ℕ → Done → List ℕ → Walk → Type 0
-LeadWalks L f w at old s new r = Walked f (λ a. 9) w (L .parse (drop at w)) old s new r
+LeadWalks L f = Walking (L .parse) f (λ a. 9)
 
 -- so a lead and what follows it are walked by walking the two, one behind the other
 module _ {A B : Type 0} (L : Lead A) (f : A → List ℕ) (G : Format B) (f′ : B → List ℕ) (h : Heads G (L .begins) false) where

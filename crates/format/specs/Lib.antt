@@ -14,6 +14,7 @@ pub mod Read
 pub mod Count
 pub mod Walk
 pub mod Sequence
+pub mod Steps
 pub mod Leads
 pub mod Told
 pub mod Loop

@@ -9,8 +9,8 @@ use Rattle.format.specs.Parsed.{Parsed, fail, got, bind, map}
 use Rattle.format.specs.Format.{Format}
 use Rattle.format.specs.Lists.{times, times-short, times-only, many, prints, prints-more}
 use Rattle.format.specs.Read.{place-at}
-use Rattle.format.specs.Count.{Adds, adds-nil, adds-seq, adds-eq, min-assoc}
-use Rattle.format.specs.Walk.{Gone, Walked, Walks}
+use Rattle.format.specs.Count.{Adds, silent, adds-nil, adds-seq, adds-eq, min-assoc}
+use Rattle.format.specs.Walk.{Gone, Walked, Walking, Walks, no-walks, got-walks}
 use Rattle.format.specs.declared.Done.{Done}
 use Rattle.format.specs.declared.Walk.{Walk}
 use Rattle.format.specs.declared.Walk.the-variants as walks
@@ -134,24 +134,84 @@ module _ {A : Type 0} (F : Format A) (f : ℕ → A → List ℕ) (g : A → ℕ
         let c0 : Come (F .parse) n (drop q w) (I .xs) 0 (drop p w) = subst (λ (m : ℕ). Come (F .parse) n (drop q w) (I .xs) m (drop p w)) z (I .come) in
         (come-done (F .parse) c0, omega arith)
 
--- ---- a list whose members draw no refusal, and of which is written the same wherever they stand
+-- ---- what the loop has walked when it is done
+
+-- n members from the place q on
+pub record MembersAt {A : Type 0} (F : Format A) (f : ℕ → A → List ℕ) (g : A → ℕ) (w : List ℕ) (q n : ℕ) (old : List ℕ) (s : Done) (new : List ℕ) (r : Walk) : Type 0 where
+  pub walked : Walked (printsAt (F .print) f q) (leastOf g) w (times (F .parse) n (drop q w)) old s new r
+
+-- of which is written the same wherever they stand, and which draw no refusal
+abbrev pub Members : {A : Type 0} → Format A → (A → List ℕ) → List ℕ → ℕ → ℕ → List ℕ → Done → List ℕ → Walk → Type 0
+Members F f = MembersAt F (λ k a. f a) silent
+
+module _ {A : Type 0} {F : Format A} {f : ℕ → A → List ℕ} {g : A → ℕ} {w : List ℕ} {q n : ℕ} {old : List ℕ} {s₀ : Done} where
+  pub loop-starts : q ≤ length w → Going F f g w q n old s₀ old s₀ q n
+  loop-starts h = going-none F f g w q n old s₀ h
+
+  module _ {out : List ℕ} {s : Done} {p left : ℕ} (I : Going F f g w q n old s₀ out s p left) where
+    pub loop-goes-on : {new : List ℕ} {r : Walk} {p′ : ℕ} {u : Done} → 0 < left → Walking (F .parse) (f p) g w p out s new r → r ≡ walks.Got p′ u → length new ≡ length out
+        → Going F f g w q n old s₀ new u p′ (left - 1)
+    loop-goes-on {new} {r} {p′} {u} l h e k = going-more F f g I l (got-walks F (f p) g w p out s new r p′ u h e) k
+
+    pub loop-stops : {new : List ℕ} {r : Walk} → 0 < left → Walking (F .parse) (f p) g w p out s new r → r ≡ walks.No → MembersAt F f g w q n old s₀ new walks.No
+    loop-stops {new} {r} l h e = record { walked = rw (going-stop F f g I l (no-walks F (f p) g w p out s new r h e)) refl }
+
+    pub loop-done : left ≤ 0 → MembersAt F f g w q n old s₀ out (walks.Got p s)
+    loop-done l = record { walked = rw (going-done F f g I l .0) (s, rw (place-at w p (I .place)), I .adds) }
+
+-- ---- a count, and so many members
+
+-- N reads the count, and c is written of it; X reads both, and f′ is written of the list
+pub record CountedList {A : Type 0} (N : List ℕ → Parsed ℕ) (c : ℕ → List ℕ) (F : Format A) (f : A → List ℕ) (X : List ℕ → Parsed (List A)) (f′ : List A → List ℕ) : Type 0 where
+  pub reads : (s : List ℕ) → X s ≡ bind (N s) (times (F .parse))
+  pub writes : (xs : List A) → c (length xs) ++ prints f xs ≡ f′ xs
+  pub long : (a : A) → F .Ok a → 0 < length (F .print a)
 
 least-none : {A : Type 0} (xs : List A) → leastOf (λ a. 9) xs ≡ 9
 least-none [] = refl
 least-none (a ∷ xs) = rw (least-none xs)
 
+-- what was read and written of so many members, behind their count
+counted-walked : {A : Type 0} (c : ℕ → List ℕ) (F : Format A) (f : A → List ℕ) (f′ : List A → List ℕ) → ((xs : List A) → c (length xs) ++ prints f xs ≡ f′ xs) → (n : ℕ) (w : List ℕ) (p : ℕ)
+    {old : List ℕ} {s : Done} {cur : List ℕ} {t : Done} {new : List ℕ} {r : Walk} → Adds (c n) 9 old s cur t → Members F f w p n cur t new r
+    → Walked f′ silent w (times (F .parse) n (drop p w)) old s new r
+counted-walked {A} c F f f′ writes n w p {old} {s} {cur} {t} {new} {r} a m = go (times (F .parse) n (drop p w)) refl (m .walked)
+  where
+    go : (m : Parsed (List A)) → times (F .parse) n (drop p w) ≡ m → Walked (printsAt (F .print) (λ k a. f a) p) (leastOf silent) w m cur t new r → Walked f′ silent w m old s new r
+    go fail q k = k
+    go (got xs u) q k =
+        let l : n ≡ length xs = sym (times-only F n (drop p w) xs u q .0) in
+        let b : c n ++ printsAt (F .print) (λ k a. f a) p xs ≡ c (length xs) ++ prints f xs = rw (printsAt-plain (F .print) f p xs) (ap (λ (i : ℕ). c i ++ prints f xs) l) in
+        (k .0, k .1, adds-eq (b ∙ writes xs) (ap (min 9) (least-none xs)) (adds-seq a (k .2)))
+
+module _ {A : Type 0} {N : List ℕ → Parsed ℕ} {c : ℕ → List ℕ} {F : Format A} {f : A → List ℕ} {X : List ℕ → Parsed (List A)} {f′ : List A → List ℕ} (K : CountedList N c F f X f′) {w : List ℕ}
+    {at : ℕ} {old : List ℕ} {s : Done} {new : List ℕ} where
+  pub count-missing : N (drop at w) ≡ fail → Walking X f′ silent w at old s new walks.No
+  count-missing e = record { walked = rw (K .reads (drop at w), e) refl }
+
+  -- a count larger than what is left
+  pub count-large : (n p : ℕ) → N (drop at w) ≡ got n (drop p w) → length w - p < n → Walking X f′ silent w at old s new walks.No
+  count-large n p e h =
+      let l : length (drop p w) < n = omega (arith, length-drop p w) in
+      record { walked = rw (K .reads (drop at w), e, times-short F (K .long) n (drop p w) l) refl }
+
+  pub members-follow : {n p : ℕ} {cur : List ℕ} {t : Done} {r : Walk} → MembersAt F (λ k a. f a) silent w p n cur t new r → Adds (c n) 9 old s cur t → N (drop at w) ≡ got n (drop p w)
+      → Walking X f′ silent w at old s new r
+  members-follow {n} {p} m a e = record { walked = rw (K .reads (drop at w), e) (counted-walked c F f f′ (K .writes) n w p a m) }
+
+pub counted-list : {A : Type 0} (N : Format ℕ) (c : ℕ → List ℕ) (F : Format A) (f : A → List ℕ) → ((a : A) → F .Ok a → 0 < length (F .print a))
+    → CountedList (N .parse) c F f (many N F .parse) (λ xs. c (length xs) ++ prints f xs)
+counted-list N c F f long = record { reads = λ s. refl; writes = λ xs. refl; long = long }
+
+-- ---- the same with every argument written, for proofs that cite facts by their place
+
 module _ {A : Type 0} (F : Format A) (f : A → List ℕ) where
-  -- n members from the place q on
-  abbrev pub Members : List ℕ → ℕ → ℕ → List ℕ → Done → List ℕ → Walk → Type 0
-  Members w q n old s new r = Walked (prints f) (λ xs. 9) w (times (F .parse) n (drop q w)) old s new r
-
   module _ {w : List ℕ} {q n : ℕ} {old : List ℕ} {s₀ : Done} {out : List ℕ} {s : Done} {p left : ℕ} (I : Going F (λ k a. f a) (λ a. 9) w q n old s₀ out s p left) where
-    pub members-no : (new : List ℕ) → 0 < left → F .parse (drop p w) ≡ fail → Members w q n old s₀ new walks.No
-    members-no new l e = rw (going-stop F (λ k a. f a) (λ a. 9) I l e) refl
+    pub members-no : (new : List ℕ) → 0 < left → F .parse (drop p w) ≡ fail → Members F f w q n old s₀ new walks.No
+    members-no new l e = record { walked = rw (going-stop F (λ k a. f a) (λ a. 9) I l e) refl }
 
-    pub members-got : left ≤ 0 → Members w q n old s₀ out (walks.Got p s)
-    members-got l =
-        rw (going-done F (λ k a. f a) (λ a. 9) I l .0) (s, rw (place-at w p (I .place)), adds-eq (printsAt-plain (F .print) f q (I .xs)) (least-none (I .xs)) (I .adds))
+    pub members-got : left ≤ 0 → Members F f w q n old s₀ out (walks.Got p s)
+    members-got l = loop-done I l
 
   -- behind their count: N reads it, and c is what is written of it
   module _ (N : Format ℕ) (c : ℕ → List ℕ) (w : List ℕ) (at : ℕ) (old : List ℕ) (s : Done) (new : List ℕ) where
@@ -159,18 +219,11 @@ module _ {A : Type 0} (F : Format A) (f : A → List ℕ) where
     Counted r = Walks (many N F) (λ xs. c (length xs) ++ prints f xs) (λ xs. 9) w at old s new r
 
     pub counted-no : N .parse (drop at w) ≡ fail → Counted walks.No
-    counted-no e = rw e refl
+    counted-no e = record { walked = rw e refl }
 
     module _ (n p : ℕ) (e : N .parse (drop at w) ≡ got n (drop p w)) where
       pub counted-short : ((a : A) → F .Ok a → 0 < length (F .print a)) → length (drop p w) < n → Counted walks.No
-      counted-short long h = rw (e, times-short F long n (drop p w) h) refl
+      counted-short long h = record { walked = rw (e, times-short F long n (drop p w) h) refl }
 
-      pub counted-got : (cur : List ℕ) (t : Done) (r : Walk) → Adds (c n) 9 old s cur t → Members w p n cur t new r → Counted r
-      counted-got cur t r a k = rw e (go (times (F .parse) n (drop p w)) refl k)
-        where
-          go : (m : Parsed (List A)) → times (F .parse) n (drop p w) ≡ m → Walked (prints f) (λ xs. 9) w m cur t new r
-              → Walked (λ xs. c (length xs) ++ prints f xs) (λ xs. 9) w m old s new r
-          go fail q k = k
-          go (got xs u) q k =
-              let l : n ≡ length xs = sym (times-only F n (drop p w) xs u q .0) in
-              (k .0, k .1, adds-eq (ap (λ (i : ℕ). c i ++ prints f xs) l) refl (adds-seq a (k .2)))
+      pub counted-got : (cur : List ℕ) (t : Done) (r : Walk) → Adds (c n) 9 old s cur t → Members F f w p n cur t new r → Counted r
+      counted-got cur t r a k = record { walked = rw e (counted-walked c F f (λ xs. c (length xs) ++ prints f xs) (λ xs. refl) n w p a k) }

@@ -10,7 +10,7 @@ use Rattle.format.specs.Format.{Format}
 use Rattle.format.specs.Combine.{dep, pair}
 use Rattle.format.specs.Read.{placeOf}
 use Rattle.format.specs.Count.{Adds, adds-seq, adds-eq}
-use Rattle.format.specs.Walk.{Walked, Walks, walked-map}
+use Rattle.format.specs.Walk.{Walked, Walking, Walks, walked-map}
 use Rattle.format.specs.declared.Done.{Done}
 use Rattle.format.specs.declared.Walk.{Walk}
 use Rattle.format.specs.declared.Walk.the-variants as walks
@@ -41,21 +41,21 @@ module _ {A B C : Type 0} (P : List ℕ → Parsed A) (f : A → List ℕ) (g : 
     pub writes : (a : A) (b : B) → f a ++ f′ b ≡ f″ (join a b)
     pub draws : (a : A) (b : B) → min (g a) (g′ b) ≡ g″ (join a b)
 
-  module _ (J : Joins) (w : List ℕ) (at : ℕ) (old : List ℕ) (s : Done) (cur : List ℕ) (r : Walk) (h : Walked f g w (P (drop at w)) old s cur r) where
+  module _ (J : Joins) (w : List ℕ) (at : ℕ) (old : List ℕ) (s : Done) (cur : List ℕ) (r : Walk) (h : Walking P f g w at old s cur r) where
     abbrev whole : Parsed A → Parsed C
     whole m = bind m (λ a t. map (J .join a) (Q t))
 
     -- where the first part is missing, so is the whole
-    pub joins-no : (new : List ℕ) → r ≡ walks.No → Walked f″ g″ w (X (drop at w)) old s new walks.No
-    joins-no new e = subst (λ (m : Parsed C). Walked f″ g″ w m old s new walks.No) (sym (J .reads (drop at w))) (go (P (drop at w)) h)
+    pub joins-no : (new : List ℕ) → r ≡ walks.No → Walking X f″ g″ w at old s new walks.No
+    joins-no new e = record { walked = subst (λ (m : Parsed C). Walked f″ g″ w m old s new walks.No) (sym (J .reads (drop at w))) (go (P (drop at w)) (h .walked)) }
       where
         go : (m : Parsed A) → Walked f g w m old s cur r → Walked f″ g″ w (whole m) old s new walks.No
         go fail k = refl
         go (got a t) k = let z : _≡_ {A = ℕ} 0 1 = cc (k .1) in absurd (omega arith)
 
     -- else a walk over the second part, from where the first one ended, is one over the whole
-    pub joins-got : (new : List ℕ) (p : ℕ) (u : Done) (r′ : Walk) → r ≡ walks.Got p u → Walked f′ g′ w (Q (drop p w)) cur u new r′ → Walked f″ g″ w (X (drop at w)) old s new r′
-    joins-got new p u r′ e k = subst (λ (m : Parsed C). Walked f″ g″ w m old s new r′) (sym (J .reads (drop at w))) (go (P (drop at w)) refl h)
+    pub joins-got : (new : List ℕ) (p : ℕ) (u : Done) (r′ : Walk) → r ≡ walks.Got p u → Walking Q f′ g′ w p cur u new r′ → Walking X f″ g″ w at old s new r′
+    joins-got new p u r′ e k = record { walked = subst (λ (m : Parsed C). Walked f″ g″ w m old s new r′) (sym (J .reads (drop at w))) (go (P (drop at w)) refl (h .walked)) }
       where
         second : (a : A) (v : Done) (m : Parsed B) → Adds (f a) (g a) old s cur v → Walked f′ g′ w m cur v new r′ → Walked f″ g″ w (map (J .join a) m) old s new r′
         second a v fail x y = y
@@ -69,7 +69,7 @@ module _ {A B C : Type 0} (P : List ℕ → Parsed A) (f : A → List ℕ) (g : 
             let ue : u ≡ x .0 = cc in
             let t′ : drop p w ≡ t = ap (λ (n : ℕ). drop n w) pe ∙ sym (left-at P (J .ends) w at a t q) in
             second a (x .0) (Q t) (x .2)
-            (subst (λ (l : List ℕ). Walked f′ g′ w (Q l) cur (x .0) new r′) t′ (subst (λ (v : Done). Walked f′ g′ w (Q (drop p w)) cur v new r′) ue k))
+            (subst (λ (l : List ℕ). Walked f′ g′ w (Q l) cur (x .0) new r′) t′ (subst (λ (v : Done). Walked f′ g′ w (Q (drop p w)) cur v new r′) ue (k .walked)))
 
 -- the value as something else
 pub joins-map : {A B C D : Type 0} (P : List ℕ → Parsed A) (f : A → List ℕ) (g : A → ℕ) (Q : List ℕ → Parsed B) (f′ : B → List ℕ) (g′ : B → ℕ) (X : List ℕ → Parsed C)
@@ -125,5 +125,7 @@ module _ {A : Type 0} {B : A → Type 0} (F : Format A) (G : (a : A) → Format 
       → ((b : B a) (q : List ℕ) → G a .parse (drop p w) ≡ got b q → pre ++ g b ≡ f (a, b)) → Adds pre 9 old s cur t → Walks (G a) g (λ b. 9) w p cur t new r
       → Walks (dep F G) f (λ q. 9) w at old s new r
   walks-known f a g pre w at p old s cur t new r e ef x y =
-      subst (λ (m : Parsed ((a : A) × B a)). Walked f (λ q. 9) w m old s new r) (sym (dep-known a (drop at w) (drop p w) e))
-      (walked-map g (λ b. 9) f (λ q. 9) (λ b. (a, b)) pre 9 w (G a .parse (drop p w)) old s cur t new r ef (λ b. refl) x y)
+      record {
+        walked = subst (λ (m : Parsed ((a : A) × B a)). Walked f (λ q. 9) w m old s new r) (sym (dep-known a (drop at w) (drop p w) e))
+            (walked-map g (λ b. 9) f (λ q. 9) (λ b. (a, b)) pre 9 w (G a .parse (drop p w)) old s cur t new r ef (λ b. refl) x (y .walked));
+      }

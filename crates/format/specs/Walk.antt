@@ -17,8 +17,12 @@ abbrev pub Walked : {A : Type 0} → (A → List ℕ) → (A → ℕ) → List �
 Walked f g w fail old s new r = r ≡ walks.No
 Walked f g w (got a t) old s new r = (u : Done) × (r ≡ walks.Got (placeOf w t) u) × Adds (f a) (g a) old s new u
 
+-- a walk of what P reads at a place: a record, so that `search` finds it among what is known and its laws leave their arguments out
+pub record Walking {A : Type 0} (P : List ℕ → Parsed A) (f : A → List ℕ) (g : A → ℕ) (w : List ℕ) (at : ℕ) (old : List ℕ) (s : Done) (new : List ℕ) (r : Walk) : Type 0 where
+  pub walked : Walked f g w (P (drop at w)) old s new r
+
 abbrev pub Walks : {A : Type 0} → Format A → (A → List ℕ) → (A → ℕ) → List ℕ → ℕ → List ℕ → Done → List ℕ → Walk → Type 0
-Walks W f g w at old s new r = Walked f g w (W .parse (drop at w)) old s new r
+Walks W = Walking (W .parse)
 
 -- what an answer tells
 module _ {A : Type 0} (f : A → List ℕ) (g : A → ℕ) (w old : List ℕ) (s : Done) (new : List ℕ) (r : Walk) where
@@ -51,13 +55,13 @@ module _ {A : Type 0} (f : A → List ℕ) (g : A → ℕ) (w : List ℕ) (m : P
 
 module _ {A : Type 0} (W : Format A) (f : A → List ℕ) (g : A → ℕ) (w : List ℕ) (at : ℕ) (old : List ℕ) (s : Done) (new : List ℕ) where
   pub walks-no : W .parse (drop at w) ≡ fail → Walks W f g w at old s new walks.No
-  walks-no e = walked-none f g w (W .parse (drop at w)) old s new e
+  walks-no e = record { walked = walked-none f g w (W .parse (drop at w)) old s new e }
 
   pub walks-got : (a : A) (p : ℕ) (u : Done) → W .parse (drop at w) ≡ got a (drop p w) → p ≤ length w → Adds (f a) (g a) old s new u → Walks W f g w at old s new (walks.Got p u)
-  walks-got a p u e h d = walked-is f g w (W .parse (drop at w)) old s new a p u e h d
+  walks-got a p u e h d = record { walked = walked-is f g w (W .parse (drop at w)) old s new a p u e h d }
 
   pub no-walks : (r : Walk) → Walks W f g w at old s new r → r ≡ walks.No → W .parse (drop at w) ≡ fail
-  no-walks r h e = walked-no f g w old s new r (W .parse (drop at w)) h e
+  no-walks r h e = walked-no f g w old s new r (W .parse (drop at w)) (h .walked) e
 
   pub record Gone (p : ℕ) (u : Done) : Type 0 where
     pub value : A
@@ -67,7 +71,7 @@ module _ {A : Type 0} (W : Format A) (f : A → List ℕ) (g : A → ℕ) (w : L
 
   pub got-walks : (r : Walk) (p : ℕ) (u : Done) → Walks W f g w at old s new r → r ≡ walks.Got p u → Gone p u
   got-walks r p u h e =
-      let q = walked-got f g w old s new r (W .parse (drop at w)) p u h e in
+      let q = walked-got f g w old s new r (W .parse (drop at w)) p u (h .walked) e in
       let ra = rest-at W w at (q .value) (q .rest) (q .is) in
       record {
         value = q .value;
@@ -97,4 +101,4 @@ pub walks-tail : {A B : Type 0} (W : Format A) (f : A → List ℕ) (g : A → �
     → X .parse (drop at′ w) ≡ map h (W .parse (drop at w)) → ((a : A) → pre ++ f a ≡ f′ (h a)) → ((a : A) → min l (g a) ≡ g′ (h a))
     → Adds pre l old s cur t → Walks W f g w at cur t new r → Walks X f′ g′ w at′ old s new r
 walks-tail W f g X f′ g′ h pre l w at at′ old s cur t new r e ef eg a x =
-    walked-as f g f′ g′ h pre l w (W .parse (drop at w)) (X .parse (drop at′ w)) old s cur t new r e (λ v q p. ef v) eg a x
+    record { walked = walked-as f g f′ g′ h pre l w (W .parse (drop at w)) (X .parse (drop at′ w)) old s cur t new r e (λ v q p. ef v) eg a (x .walked) }

@@ -7,6 +7,7 @@ use subtypes::walk_sub;
 ghost use Prim.Native.Nat.{_≤_};
 ghost use lib.ListN.{length};
 ghost use Rattle.format.specs.Loop.{Members};
+ghost use Rattle.format.specs.Count.{silent};
 ghost use Rattle.format.specs.Walk.{Walks};
 ghost use Rattle.leb128.specs.Formats.{u32};
 ghost use Rattle.texts.specs.Words.{word};
@@ -34,7 +35,7 @@ fn walk_subs(n: usize, words: &[u32], at: usize, out: &mut [u8], s: Done) -> Wal
 
 // A count larger than what is left is answered at once, since each subtype takes a word.
 fn walk_many(words: &[u32], at: usize, out: &mut [u8], s: Done) -> Walk
-    ensures { λ r. ⌜ Walks manyWords (manyBytes .print) (λ x. 9) (now (words .entry)) at (now (out .entry)) s (now (out .exit)) r ⌝ }
+    ensures { λ r. ⌜ Walks manyWords (manyBytes .print) silent (now (words .entry)) at (now (out .entry)) s (now (out .exit)) r ⌝ }
 {
     if words.len() <= at {
         return Walk::No;
@@ -49,7 +50,7 @@ fn walk_many(words: &[u32], at: usize, out: &mut [u8], s: Done) -> Walk
 
 // Reads the words of a type behind its 1 and appends its item: a subtype alone, or a group.
 pub fn walk_words(words: &[u32], at: usize, out: &mut [u8], s: Done) -> Walk
-    ensures { λ r. ⌜ Walks groupWords (groupBytes .print) (λ x. 9) (now (words .entry)) at (now (out .entry)) s (now (out .exit)) r ⌝ }
+    ensures { λ r. ⌜ Walks groupWords (groupBytes .print) silent (now (words .entry)) at (now (out .entry)) s (now (out .exit)) r ⌝ }
 {
     if words.len() <= at {
         return Walk::No;

@@ -5,39 +5,40 @@ use mathlib.Core.Bool.{Bool, true, false, cond}
 use mathlib.Core.List.{List, [], _∷_, _++_}
 use Prim.Native.Nat.{ℕ, _+_, _-_, _<_, _≤_}
 use native.Mathlib.Omega.{arith}
-use lib.IntN.{pos}
 use lib.Dec.{eqb}
+use mir.Syntax.{w64}
+use mir.Val.{Fits}
 use lib.ListN.{length, getD, drop, length-append, length-drop}
 use borrow.Author.Tests.{ne-eqb, eqb-true}
 use Rattle.format.specs.Parsed.{Parsed, fail, got, bind, map}
-use Rattle.format.specs.Count.{Adds}
+use Rattle.format.specs.Count.{Adds, adds-seq}
 use Rattle.format.specs.Read.{drop-more, drop-end, drop-two, one-read, none-read}
-use Rattle.format.specs.Sequence.{joins-got}
 use Rattle.format.specs.Told.{one-at}
-use Rattle.format.specs.Walk.{walks-no, walked-as}
+use Rattle.format.specs.Steps.{nothing-left, nothing-there}
+use Rattle.format.specs.Walk.{Walked, no-walks, walked-as}
 use Rattle.format.specs.Write.{fits-or}
 use Rattle.format.specs.declared.Done.{Done}
 use Rattle.format.specs.declared.Walk.{Walk}
 use Rattle.format.specs.declared.Walk.the-variants as walks
-use Rattle.leb128.specs.Leb.{uleb, unsigned}
-use Rattle.leb128.specs.LebLaws.{leb-some}
+use Rattle.leb128.specs.Leb.{uleb}
 use Rattle.texts.specs.Section.{Section}
 use Rattle.texts.specs.Words.{span}
 use Rattle.texts.specs.Place.{sizedAt, textAt, stands, stands-not}
 use Rattle.texts.specs.declared.Span.{Span}
+use Rattle.texts.specs.declared.TextAt.{TextAt}
 use Rattle.texts.specs.declared.TextAt.the-variants.{At, No}
 use Rattle.parts.specs.Text.{name, nameBytes}
-use Rattle.parts.specs.Both.{behind}
-use Rattle.parts.specs.Writing.{Writing, itemOf, lowOf, both-joins}
+use Rattle.parts.specs.Both.{both, behind}
+use Rattle.parts.specs.Listed.{listed}
+use Rattle.parts.specs.Writing.{Writing, itemOf, lowOf, part-follows}
 use Rattle.parts.specs.Chosen.{chosen-writing}
 use Rattle.parts.specs.Reading.{Reading, recordAt, two-reads}
-use Rattle.imports.specs.Entity.{entityBytes}
-use Rattle.imports.specs.Forms.{MemberOf, member, Rest, rest, form, Imports, formOf, formWord, words}
+use Rattle.imports.specs.Entity.{entity}
+use Rattle.imports.specs.Forms.{member, Rest, rest, form, Imports, formOf, formWord, words}
 use Rattle.imports.specs.Compact.{formIn, formAt, bytes}
 use Rattle.imports.specs.Section.{importSection}
 use Rattle.imports.specs.declared.Form.{Form}
 use Rattle.imports.specs.declared.Form.the-variants.{Single, Compact1, Compact2}
-use Rattle.imports.specs.declared.Member.{Member}
 use Rattle.imports.specs.declared.Member.the-variants.{Import, Name}
 
 -- ---- the form by two bytes
@@ -67,40 +68,30 @@ module _ (b : List ℕ) (at : ℕ) where
         pub form-single : (getD b (at + 1) 0 ≡ 0x7F → ⊥) → (getD b (at + 1) 0 ≡ 0x7E → ⊥) → Single ≡ formAt (drop at b)
         form-single m n = rw (two, z, ne-eqb (getD b (at + 1) 0) 0x7F m, ne-eqb (getD b (at + 1) 0) 0x7E n)
 
--- ---- members: each takes a word, and a byte
-
-pub words-long : (m : Member) (a : MemberOf m Span) → member m .words .Ok a → 0 < length (member m .words .print a)
-words-long Import a ok = omega arith
-words-long Name a ok = omega arith
-
-name-long : (n : List ℕ) → 0 < length (nameBytes .print n)
-name-long n = omega (arith, leb-some unsigned (pos (length n)), length-append (uleb (length n)) n)
-
-pub bytes-long : (m : Member) (a : MemberOf m (List ℕ)) → member m .bytes .Ok a → 0 < length (member m .bytes .print a)
-bytes-long Import a ok = omega (arith, name-long (a .0), length-append (nameBytes .print (a .0)) (entityBytes .print (a .1)))
-bytes-long Name a ok = name-long a
-
 -- ---- writing: the form by the first word
 
-module _ (t w : List ℕ) (at : ℕ) (old : List ℕ) (s : Done) (new : List ℕ) where
+-- the module's name was walked, and then what the form has behind it
+pub form-writes : (f : Form) {t w : List ℕ} {at : ℕ} {old : List ℕ} {s : Done} {cur : List ℕ} {p : ℕ} {u : Done} {new : List ℕ} {r r′ : Walk} → at < length w → getD w at 0 ≡ formOf f
+    → Writing name t w (at + 1) old s cur r → r ≡ walks.Got p u → Writing (rest f) t w p cur u new r′ → Writing importSection t w at old s new r′
+form-writes f {t} {w} {at} {old} {s} {new = new} {r′ = r′} h e x g y =
+    chosen-writing formWord (λ f. tt) form bytes (λ x. (λ h. h, λ h. h)) (λ x. refl) f t w at (at + 1) old s new r′ (one-read formWord f (formOf f) tt refl w at h e)
+    (part-follows name (rest f) x g y)
+
+module _ {t w : List ℕ} {at : ℕ} {old : List ℕ} {s : Done} {new : List ℕ} where
   pub words-empty : length w ≤ at → Writing importSection t w at old s new walks.No
-  words-empty h = walks-no words (itemOf importSection t) (lowOf importSection t) w at old s new (rw (drop-end w at h))
+  words-empty h = record { writes = nothing-left h refl }
 
   module _ (h : at < length w) where
-    -- the module's name was walked, and then what the form has behind it
-    pub form-word : (f : Form) → getD w at 0 ≡ formOf f → (cur : List ℕ) (p : ℕ) (u : Done) (r : Walk) → Writing name t w (at + 1) old s cur (walks.Got p u)
-        → Writing (rest f) t w p cur u new r → Writing importSection t w at old s new r
-    form-word f e cur p u r x y =
-        chosen-writing formWord (λ f. tt) form bytes (λ x. (λ h. h, λ h. h)) (λ x. refl) f t w at (at + 1) old s new r (one-read formWord f (formOf f) tt refl w at h e)
-        (joins-got _ _ _ _ _ _ _ _ _ (both-joins name (rest f) t) w (at + 1) old s cur (walks.Got p u) x new p u r refl y)
-
-    pub no-form : ((f : Form) → getD w at 0 ≡ formOf f → ⊥) → Writing importSection t w at old s new walks.No
-    no-form n = walks-no words (itemOf importSection t) (lowOf importSection t) w at old s new (rw (none-read formWord formOf (λ f. refl) w at h n))
+    pub no-form : (getD w at 0 ≡ 0 → ⊥) → (getD w at 0 ≡ 1 → ⊥) → (getD w at 0 ≡ 2 → ⊥) → Writing importSection t w at old s new walks.No
+    no-form i j k = record { writes = nothing-there (rw (none-read formWord formOf (λ f. refl) w at h (elim [ Single ↦ i | Compact1 ↦ j | Compact2 ↦ k ]))) }
 
     -- whatever the form, no name follows
-    pub no-name : span .parse (drop (at + 1) w) ≡ fail → Writing importSection t w at old s new walks.No
-    no-name e = walks-no words (itemOf importSection t) (lowOf importSection t) w at old s new (go (formWord .parse (drop at w)) refl)
+    pub no-name : {r : Walk} → Writing name t w (at + 1) old s new r → r ≡ walks.No → Writing importSection t w at old s new walks.No
+    no-name {r} x g = record { writes = nothing-there (go (formWord .parse (drop at w)) refl) }
       where
+        e : span .parse (drop (at + 1) w) ≡ fail
+        e = no-walks span (itemOf name t) (lowOf name t) w (at + 1) old s new r (x .writes) g
+
         go : (m : Parsed Form) → formWord .parse (drop at w) ≡ m → words .parse (drop at w) ≡ fail
         go fail p = rw p
         go (got f r) p =
@@ -132,10 +123,10 @@ short-single (x ∷ []) h = refl
 short-single (x ∷ y ∷ s) h = absurd (omega arith)
 
 module _ (b : List ℕ) (p : ℕ) (f : Form) (n : f ≡ Single → ⊥) (e : f ≡ formAt (drop p b)) where
-  pub compact-long : p + 2 ≤ length b
+  compact-long : p + 2 ≤ length b
   compact-long = ⊎-elim (λ h. h) (λ h. absurd (n (e ∙ short-single (drop p b) (omega (arith, length-drop p b))))) (fits-or (p + 2) (length b))
 
-  pub compact-reads : {A B : Type 0} (S : Section A B) (old : List ℕ) (s : Done) (new : List ℕ) (r : Walk) → Reading S b (p + 2) old s new r
+  compact-reads : {A B : Type 0} (S : Section A B) (old : List ℕ) (s : Done) (new : List ℕ) (r : Walk) → Reading S b (p + 2) old s new r
       → Reading (behind 0x00 (behind (secondOf f) S)) b p old s new r
   compact-reads S old s new r x =
       let h = compact-long in
@@ -145,8 +136,8 @@ module _ (b : List ℕ) (p : ℕ) (f : Form) (n : f ≡ Single → ⊥) (e : f �
 -- ---- reading: the module's name, and what stands behind it
 
 module _ (b : List ℕ) (at : ℕ) (old : List ℕ) (s : Done) (new : List ℕ) where
-  pub no-module : textAt (sizedAt at) (nameBytes .parse (drop at b)) ≡ No → Reading importSection b at old s new walks.No
-  no-module e h = walks-no bytes (recordAt importSection at) (λ x. 9) b at old s new (rw (stands-not nameBytes (sizedAt at) b at e))
+  not-named : textAt (sizedAt at) (nameBytes .parse (drop at b)) ≡ No → Reading importSection b at old s new walks.No
+  not-named e = record { reads = λ h. nothing-there (rw (stands-not nameBytes (sizedAt at) b at e)) }
 
   module _ (v : Span) (e : textAt (sizedAt at) (nameBytes .parse (drop at b)) ≡ At v) where
     name-end : (h : at ≤ length b) → let n = stands nameBytes (sizedAt at) b at v h e .text in v .start + v .len ≡ at + length (nameBytes .print n)
@@ -155,18 +146,9 @@ module _ (b : List ℕ) (at : ℕ) (old : List ℕ) (s : Done) (new : List ℕ) 
         let n = g .text in
         ap (λ (u : Span). u .start + u .len) (g .is) ∙ omega (arith, length-append (uleb (length n)) n)
 
-    pub form-reads : (f : Form) → f ≡ formAt (drop (v .start + v .len) b) → (cur : List ℕ) (u : Done) (r : Walk) → Adds (formOf f ∷ span .print v) 9 old s cur u
+    form-reads : (f : Form) → f ≡ formAt (drop (v .start + v .len) b) → (cur : List ℕ) (u : Done) (r : Walk) → Adds (formOf f ∷ span .print v) 9 old s cur u
         → Reading (rest f) b (v .start + v .len) cur u new r → Reading importSection b at old s new r
-    form-reads f fe cur u r a x h =
-        let g = stands nameBytes (sizedAt at) b at v h e in
-        let n = g .text in
-        let p = v .start + v .len in
-        let pe : p ≡ at + length (nameBytes .print n) = name-end h in
-        let named : nameBytes .parse (drop at b) ≡ got n (drop p b) = g .parsed ∙ ap (λ (k : ℕ). got n (drop k b)) (sym pe) in
-        let within : p ≤ length b = omega (arith, g .within) in
-        walked-as (recordAt (rest f) p) (λ y. 9) (recordAt importSection at) (λ y. 9) (λ y. (f, (n, y))) (formOf f ∷ span .print v) 9 b (rest f .bytes .parse (drop p b)) (bytes .parse (drop at b)) old s cur u new r
-        (rw (named, one-at formAt (λ f. rest f .bytes) f (drop p b) (sym fe)) (behind-name n (rest f .bytes .parse (drop p b))))
-        (λ y q i. prints n (g .is) pe y) (λ y. refl) a (x within)
+    form-reads f fe cur u r a x = record { reads = λ h. record { walked = go h } }
       where
         behind-name : (n : List ℕ) (m : Parsed (Rest f (List ℕ)))
             → map {B = Imports (List ℕ)} (λ (q : List ℕ × ((f : Form) × Rest f (List ℕ))). (q .1 .0, (q .0, q .1 .1))) (bind {B = List ℕ × ((f : Form) × Rest f (List ℕ))} (map {B = (f : Form) × Rest f (List ℕ)} (λ y. (f, y)) m) (λ y t. got (n, y) t))
@@ -179,3 +161,55 @@ module _ (b : List ℕ) (at : ℕ) (old : List ℕ) (s : Done) (new : List ℕ) 
         prints n is pe y =
             ap (λ (k : ℕ). formOf f ∷ (span .print v ++ recordAt (rest f) k y)) pe
             ∙ ap (λ (u : Span). formOf f ∷ (span .print u ++ recordAt (rest f) (at + length (nameBytes .print n)) y)) is
+
+        go : at ≤ length b → Walked (recordAt importSection at) (λ y. 9) b (bytes .parse (drop at b)) old s new r
+        go h =
+            let g = stands nameBytes (sizedAt at) b at v h e in
+            let n = g .text in
+            let p = v .start + v .len in
+            let pe : p ≡ at + length (nameBytes .print n) = name-end h in
+            let named : nameBytes .parse (drop at b) ≡ got n (drop p b) = g .parsed ∙ ap (λ (k : ℕ). got n (drop k b)) (sym pe) in
+            let within : p ≤ length b = omega (arith, g .within) in
+            walked-as (recordAt (rest f) p) (λ y. 9) (recordAt importSection at) (λ y. 9) (λ y. (f, (n, y))) (formOf f ∷ span .print v) 9 b (rest f .bytes .parse (drop p b)) (bytes .parse (drop at b)) old s cur u new r
+            (rw (named, one-at formAt (λ f. rest f .bytes) f (drop p b) (sym fe)) (behind-name n (rest f .bytes .parse (drop p b))))
+            (λ y q i. prints n (g .is) pe y) (λ y. refl) a (x .reads within .walked)
+
+-- ---- reading: what the code has found
+
+one-not : Compact1 ≡ Single → ⊥
+one-not e = let z : _≡_ {A = ℕ} 0 1 = cc in omega arith
+
+two-not : Compact2 ≡ Single → ⊥
+two-not e = let z : _≡_ {A = ℕ} 0 1 = cc in omega arith
+
+module _ {b : List ℕ} {at : ℕ} {found : TextAt} (d : found ≡ textAt (sizedAt at) (nameBytes .parse (drop at b))) {old : List ℕ} {s : Done} {new : List ℕ} where
+  pub no-module : found ≡ No → Reading importSection b at old s new walks.No
+  no-module e = not-named b at old s new (sym d ∙ e)
+
+  module _ {v : Span} (e : found ≡ At v) {f : Form} (g : f ≡ formAt (drop (v .start + v .len) b)) {cur : List ℕ} {u : Done} {r : Walk} where
+    pub single-reads : f ≡ Single → Adds (0 ∷ span .print v) 9 old s cur u → Reading (member Import) b (v .start + v .len) cur u new r → Reading importSection b at old s new r
+    single-reads k a x = form-reads b at old s new v (sym d ∙ e) Single (sym k ∙ g) cur u r a x
+
+    pub compact1-reads : f ≡ Compact1 → Adds (1 ∷ span .print v) 9 old s cur u → Reading (listed (member Import)) b (v .start + v .len + 2) cur u new r → Reading importSection b at old s new r
+    compact1-reads k a x =
+        form-reads b at old s new v (sym d ∙ e) Compact1 (sym k ∙ g) cur u r a
+        (compact-reads b (v .start + v .len) Compact1 one-not (sym k ∙ g) (listed (member Import)) cur u new r x)
+
+    pub compact2-reads : f ≡ Compact2 → Adds (2 ∷ span .print v) 9 old s cur u → Reading (both entity (listed (member Name))) b (v .start + v .len + 2) cur u new r
+        → Reading importSection b at old s new r
+    compact2-reads k a x =
+        form-reads b at old s new v (sym d ∙ e) Compact2 (sym k ∙ g) cur u r a
+        (compact-reads b (v .start + v .len) Compact2 two-not (sym k ∙ g) (both entity (listed (member Name))) cur u new r x)
+
+-- the two bytes of a compact form are within the bytes, so the place behind them is a number of 64 bits
+module _ (b : List ℕ) (p : ℕ) (most : length b ≤ 65536) (f : Form) (g : f ≡ formAt (drop p b)) where
+  pub behind-compact1 : f ≡ Compact1 → Fits w64 (p + 2)
+  behind-compact1 k = let h = compact-long b p Compact1 one-not (sym k ∙ g) in record { fits = omega arith }
+
+  pub behind-compact2 : f ≡ Compact2 → Fits w64 (p + 2)
+  behind-compact2 k = let h = compact-long b p Compact2 two-not (sym k ∙ g) in record { fits = omega arith }
+
+-- a form, and a span behind it
+pub head-added : {f : ℕ} {v : Span} {old : List ℕ} {s : Done} {cur : List ℕ} {t : Done} {new : List ℕ} {u : Done} → Adds (f ∷ []) 9 old s cur t → Adds (span .print v) 9 cur t new u
+    → Adds (f ∷ span .print v) 9 old s new u
+head-added a b = adds-seq a b

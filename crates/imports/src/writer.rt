@@ -12,6 +12,7 @@ use tables::walk_table_type;
 use tables::walk_tag_type;
 ghost use Prim.Native.Nat.{_≤_};
 ghost use lib.ListN.{length};
+ghost use Rattle.format.specs.Count.{silent};
 ghost use Rattle.format.specs.Walk.{Walks};
 ghost use Rattle.parts.specs.Listed.{listed};
 ghost use Rattle.parts.specs.Writing.{Writing, MembersWritten};
@@ -23,7 +24,7 @@ ghost use Rattle.imports.specs.Section.{importSection};
 
 // The sort, and what it is a sort of.
 fn walk_entity(words: &[u32], at: usize, out: &mut [u8], s: Done) -> Walk
-    ensures { λ r. ⌜ Walks entityWords (entityBytes .print) (λ x. 9) (now (words .entry)) at (now (out .entry)) s (now (out .exit)) r ⌝ }
+    ensures { λ r. ⌜ Walks entityWords (entityBytes .print) silent (now (words .entry)) at (now (out .entry)) s (now (out .exit)) r ⌝ }
 {
     if words.len() <= at {
         return Walk::No;

@@ -32,10 +32,12 @@ module _ (w : List ℕ) (h : 0 < length w) where
       → Walks words (itemOf t) (lowOf t) w 0 old s new r
   unfolding words textsOf itemOf
   word-section i e t old s new r x =
-      walked-as (λ a. section i .bytes .print (section i .resolve t a)) (λ a. lowestOf t (section i .texts a)) (itemOf t) (lowOf t) (λ a. (i, a)) [] 9 w
-      (section i .words .parse (drop 1 w)) (words .parse (drop 0 w)) old s old s new r
-      (dep-known idWord (λ i. section i .words) i (drop 0 w) (drop 1 w) (one-read idWord i (idOf i) tt refl w 0 h e)) (λ a q p. refl)
-      (λ a. omega (arith, lowest-small t (section i .texts a))) (adds-nil old s) x
+      record {
+        walked = walked-as (λ a. section i .bytes .print (section i .resolve t a)) (λ a. lowestOf t (section i .texts a)) (itemOf t) (lowOf t) (λ a. (i, a)) [] 9 w
+            (section i .words .parse (drop 1 w)) (words .parse (drop 0 w)) old s old s new r
+            (dep-known idWord (λ i. section i .words) i (drop 0 w) (drop 1 w) (one-read idWord i (idOf i) tt refl w 0 h e)) (λ a q p. refl)
+            (λ a. omega (arith, lowest-small t (section i .texts a))) (adds-nil old s) (x .walked);
+      }
 
   -- or none's
   pub word-none : ((i : SectionId) → getD w 0 0 ≡ idOf i → ⊥) → words .parse (drop 0 w) ≡ fail
@@ -49,7 +51,7 @@ module _ (id : ℕ) (s : List ℕ) where
   unfolding recordOf beginsIn
   byte-section i e old u cur t new r a x =
       walked-as (λ x. section i .words .print (section i .locate 0 x)) (λ x. 9) recordOf (λ x. 9) (λ x. (i, x)) (idOf i ∷ []) 9 s (section i .bytes .parse s) (beginsIn id s) old u cur t new r
-      (ap (λ (o : Option SectionId). itemsOf o s) (ap (find idOf ids) e ∙ id-full i)) (λ x q p. refl) (λ x. refl) (subst (λ (k : ℕ). Adds (k ∷ []) 9 old u cur t) e a) x
+      (ap (λ (o : Option SectionId). itemsOf o s) (ap (find idOf ids) e ∙ id-full i)) (λ x q p. refl) (λ x. refl) (subst (λ (k : ℕ). Adds (k ∷ []) 9 old u cur t) e a) (x .walked)
 
   -- or none's
   pub byte-none : ((i : SectionId) → id ≡ idOf i → ⊥) → beginsIn id s ≡ fail

@@ -1,14 +1,56 @@
--- A walk over a member of a kind that is known is one over a member of that kind. Assumes nothing.
+-- What the walks over a member, and over a list of members, are by the kind of member. Assumes nothing.
 use mathlib.Core.Path.{_≡_, sym, subst}
-use mathlib.Core.List.{List}
-use Prim.Native.Nat.{ℕ}
+use mathlib.Core.List.{List, [], _∷_}
+use Prim.Native.Nat.{ℕ, _+_, _-_, _<_}
+use lib.ListN.{length, getD, drop}
 use Rattle.format.specs.Format.{Format}
+use Rattle.format.specs.Count.{Adds, silent}
+use Rattle.format.specs.Read.{reading}
 use Rattle.format.specs.Walk.{Walks}
+use Rattle.format.specs.Loop.{CountedList, counted-list, Members}
 use Rattle.format.specs.declared.Done.{Done}
 use Rattle.format.specs.declared.Walk.{Walk}
-use Rattle.lists.specs.Member.{Value}
+use Rattle.format.specs.declared.Walk.the-variants as walks
+use Rattle.leb128.specs.Leb.{uleb}
+use Rattle.leb128.specs.Formats.{u32}
+use Rattle.numbers.specs.Answers.{readU32}
+use Rattle.numbers.specs.Told as bytes
+use Rattle.numbers.specs.declared.ReadU32.{ReadU32}
+use Rattle.numbers.specs.declared.ReadU32.the-variants as U32
+use Rattle.texts.specs.Words.{word}
+use Rattle.texts.specs.Steps.{AreWords}
+use Rattle.texts.specs.Steps as words
+use Rattle.lists.specs.Member.{Value, memberWords, memberBytes, listWords, listBytes, words-long, bytes-long}
 use Rattle.lists.specs.declared.Member.{Member}
 
-pub as-member : (W X : (m : Member) → Format (Value m)) (m n : Member) → m ≡ n → (w : List ℕ) (at : ℕ) (old : List ℕ) (s : Done) (new : List ℕ) (r : Walk)
-    → Walks (W n) (X n .print) (λ x. 9) w at old s new r → Walks (W m) (X m .print) (λ x. 9) w at old s new r
-as-member W X m n e w at old s new r h = subst (λ (k : Member). Walks (W k) (X k .print) (λ x. 9) w at old s new r) (sym e) h
+-- a walk over a member of a kind that is known is one over a member of that kind
+pub as-member : (W X : (m : Member) → Format (Value m)) (n : Member) {m : Member} {w : List ℕ} {at : ℕ} {old : List ℕ} {s : Done} {new : List ℕ} {r : Walk} → m ≡ n
+    → Walks (W n) (X n .print) silent w at old s new r → Walks (W m) (X m .print) silent w at old s new r
+as-member W X n {m} {w} {at} {old} {s} {new} {r} e h = subst (λ (k : Member). Walks (W k) (X k .print) silent w at old s new r) (sym e) h
+
+-- a list behind its count: the laws of `numbers` and `texts`, for any kind of member
+list-of-bytes : (m : Member) → CountedList (u32 .parse) (λ n. n ∷ []) (memberBytes m) (memberWords m .print) (listBytes m .parse) (listWords m .print)
+list-of-bytes m = counted-list u32 (λ n. n ∷ []) (memberBytes m) (memberWords m .print) (bytes-long m)
+
+list-of-words : (m : Member) → CountedList (word .parse) uleb (memberWords m) (memberBytes m .print) (listWords m .parse) (listBytes m .print)
+list-of-words m = counted-list word uleb (memberWords m) (memberBytes m .print) (words-long m)
+
+module _ (m : Member) {w : List ℕ} {at : ℕ} {old : List ℕ} {s : Done} {new : List ℕ} where
+  module _ {r : ReadU32} (d : readU32 r ≡ reading 0 w (u32 .parse (drop at w))) where
+    pub no-count : r ≡ U32.Nothing → Walks (listBytes m) (listWords m .print) silent w at old s new walks.No
+    no-count e = bytes.no-count u32 (list-of-bytes m) d e
+
+    module _ {n p : ℕ} (e : r ≡ U32.Value n p) where
+      pub large-count : length w - p < n → Walks (listBytes m) (listWords m .print) silent w at old s new walks.No
+      large-count h = bytes.large-count u32 (list-of-bytes m) d e h
+
+      pub then-members : {cur : List ℕ} {t : Done} {r′ : Walk} → Adds (n ∷ []) 9 old s cur t → Members (memberBytes m) (memberWords m .print) w p n cur t new r′
+          → Walks (listBytes m) (listWords m .print) silent w at old s new r′
+      then-members a k = bytes.then-members u32 (list-of-bytes m) d e a k
+
+  pub large-count-word : at < length w → length w - at - 1 < getD w at 0 → AreWords w → Walks (listWords m) (listBytes m .print) silent w at old s new walks.No
+  large-count-word h l k = words.large-count (list-of-words m) h l k
+
+  pub then-members-words : {cur : List ℕ} {t : Done} {r : Walk} → at < length w → Adds (uleb (getD w at 0)) 9 old s cur t
+      → Members (memberWords m) (memberBytes m .print) w (at + 1) (getD w at 0) cur t new r → AreWords w → Walks (listWords m) (listBytes m .print) silent w at old s new r
+  then-members-words h a k i = words.then-members (list-of-words m) h a k i

@@ -8,6 +8,7 @@ use vals::read_field;
 use vals::read_val;
 ghost use Prim.Native.Nat.{_≤_};
 ghost use lib.ListN.{length};
+ghost use Rattle.format.specs.Count.{silent};
 ghost use Rattle.format.specs.Loop.{Members};
 ghost use Rattle.format.specs.Walk.{Walks};
 ghost use Rattle.leb128.specs.Formats.{u32};
@@ -15,7 +16,7 @@ ghost use Rattle.texts.specs.Words.{word};
 ghost use Rattle.lists.specs.Member.{memberWords, memberBytes, listWords, listBytes};
 
 pub fn read_index(b: &[u8], at: usize, out: &mut [u32], s: Done) -> Walk
-    ensures { λ r. ⌜ Walks u32 (word .print) (λ x. 9) (now (b .entry)) at (now (out .entry)) s (now (out .exit)) r ⌝ }
+    ensures { λ r. ⌜ Walks u32 (word .print) silent (now (b .entry)) at (now (out .entry)) s (now (out .exit)) r ⌝ }
 {
     let ReadU32::Value(v, p) = numbers::decode_u32(b, at) else {
         return Walk::No;
@@ -24,7 +25,7 @@ pub fn read_index(b: &[u8], at: usize, out: &mut [u32], s: Done) -> Walk
 }
 
 fn read_member(m: Member, b: &[u8], at: usize, out: &mut [u32], s: Done) -> Walk
-    ensures { λ r. ⌜ Walks (memberBytes m) (memberWords m .print) (λ x. 9) (now (b .entry)) at (now (out .entry)) s (now (out .exit)) r ⌝ }
+    ensures { λ r. ⌜ Walks (memberBytes m) (memberWords m .print) silent (now (b .entry)) at (now (out .entry)) s (now (out .exit)) r ⌝ }
 {
     match m {
         Member::Index => read_index(b, at, out, s),
@@ -54,7 +55,7 @@ fn read_members(m: Member, n: usize, b: &[u8], at: usize, out: &mut [u32], s: Do
 
 // A count larger than what is left is answered at once, since each member takes a byte.
 pub fn read_list(m: Member, b: &[u8], at: usize, out: &mut [u32], s: Done) -> Walk
-    ensures { λ r. ⌜ Walks (listBytes m) (listWords m .print) (λ x. 9) (now (b .entry)) at (now (out .entry)) s (now (out .exit)) r ⌝ }
+    ensures { λ r. ⌜ Walks (listBytes m) (listWords m .print) silent (now (b .entry)) at (now (out .entry)) s (now (out .exit)) r ⌝ }
 {
     let ReadU32::Value(n, p) = numbers::decode_u32(b, at) else {
         return Walk::No;

@@ -7,6 +7,7 @@ use vals::walk_field;
 use vals::walk_val;
 ghost use Prim.Native.Nat.{_≤_};
 ghost use lib.ListN.{length};
+ghost use Rattle.format.specs.Count.{silent};
 ghost use Rattle.format.specs.Loop.{Members};
 ghost use Rattle.format.specs.Walk.{Walks};
 ghost use Rattle.leb128.specs.Formats.{u32};
@@ -14,7 +15,7 @@ ghost use Rattle.texts.specs.Words.{word};
 ghost use Rattle.lists.specs.Member.{memberWords, memberBytes, listWords, listBytes};
 
 pub fn walk_index(words: &[u32], at: usize, out: &mut [u8], s: Done) -> Walk
-    ensures { λ r. ⌜ Walks word (u32 .print) (λ x. 9) (now (words .entry)) at (now (out .entry)) s (now (out .exit)) r ⌝ }
+    ensures { λ r. ⌜ Walks word (u32 .print) silent (now (words .entry)) at (now (out .entry)) s (now (out .exit)) r ⌝ }
 {
     if words.len() <= at {
         return Walk::No;
@@ -23,7 +24,7 @@ pub fn walk_index(words: &[u32], at: usize, out: &mut [u8], s: Done) -> Walk
 }
 
 fn walk_member(m: Member, words: &[u32], at: usize, out: &mut [u8], s: Done) -> Walk
-    ensures { λ r. ⌜ Walks (memberWords m) (memberBytes m .print) (λ x. 9) (now (words .entry)) at (now (out .entry)) s (now (out .exit)) r ⌝ }
+    ensures { λ r. ⌜ Walks (memberWords m) (memberBytes m .print) silent (now (words .entry)) at (now (out .entry)) s (now (out .exit)) r ⌝ }
 {
     match m {
         Member::Index => walk_index(words, at, out, s),
@@ -53,7 +54,7 @@ fn walk_members(m: Member, n: usize, words: &[u32], at: usize, out: &mut [u8], s
 
 // A count larger than what is left is answered at once, since each member takes a word.
 pub fn walk_list(m: Member, words: &[u32], at: usize, out: &mut [u8], s: Done) -> Walk
-    ensures { λ r. ⌜ Walks (listWords m) (listBytes m .print) (λ x. 9) (now (words .entry)) at (now (out .entry)) s (now (out .exit)) r ⌝ }
+    ensures { λ r. ⌜ Walks (listWords m) (listBytes m .print) silent (now (words .entry)) at (now (out .entry)) s (now (out .exit)) r ⌝ }
 {
     if words.len() <= at {
         return Walk::No;

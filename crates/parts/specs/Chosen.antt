@@ -44,5 +44,7 @@ module _ {K : Type 0} {A B : K → Type 0} (W : Format K) (any : (k : K) → W .
   pub chosen-writing : (k : K) (t w : List ℕ) (at p : ℕ) (old : List ℕ) (s : Done) (new : List ℕ) (r : Walk) → W .parse (drop at w) ≡ got k (drop p w)
       → Writing (S k) t w p old s new r → Writing chosen t w at old s new r
   chosen-writing k t w at p old s new r e x =
-      walks-tail (S k .words) (itemOf (S k) t) (lowOf (S k) t) (chosen .words) (itemOf chosen t) (lowOf chosen t) (λ v. (k, v)) [] 9 w p at old s old s new r
-      (dep-known W (λ k. S k .words) k (drop at w) (drop p w) e) (λ v. sym (print (k, S k .resolve t v))) (λ v. lowest-behind t (S k .texts v)) (adds-nil old s) x
+      record {
+        writes = walks-tail (S k .words) (itemOf (S k) t) (lowOf (S k) t) (chosen .words) (itemOf chosen t) (lowOf chosen t) (λ v. (k, v)) [] 9 w p at old s old s new r
+            (dep-known W (λ k. S k .words) k (drop at w) (drop p w) e) (λ v. sym (print (k, S k .resolve t v))) (λ v. lowest-behind t (S k .texts v)) (adds-nil old s) (x .writes);
+      }

@@ -9,6 +9,7 @@ ghost use mathlib.Core.List.{_∷_};
 ghost use Rattle.format.specs.Alternatives.{opt};
 ghost use Rattle.format.specs.Basic.{flag};
 ghost use Rattle.format.specs.Leads.{LeadWalks, mark, option};
+ghost use Rattle.format.specs.Count.{silent};
 ghost use Rattle.format.specs.Walk.{Walks};
 ghost use Rattle.leb128.specs.Formats.{u32, index};
 ghost use Rattle.lists.specs.Member.{listWords};
@@ -45,7 +46,7 @@ pub fn read_shared(b: &[u8], at: usize, out: &mut [u32], s: Done) -> Walk
 
 // Supertypes of a final type: an empty list would have no prefix.
 fn read_some(b: &[u8], at: usize, out: &mut [u32], s: Done) -> Walk
-    ensures { λ r. ⌜ Walks someSupers (λ xs. 1 ∷ listWords Index .print xs) (λ x. 9) (now (b .entry)) at (now (out .entry)) s (now (out .exit)) r ⌝ }
+    ensures { λ r. ⌜ Walks someSupers (λ xs. 1 ∷ listWords Index .print xs) silent (now (b .entry)) at (now (out .entry)) s (now (out .exit)) r ⌝ }
 {
     if b.len() <= at {
         return Walk::No;

@@ -8,6 +8,7 @@ use numbers::append_u32;
 ghost use Rattle.format.specs.Alternatives.{opt};
 ghost use Rattle.format.specs.Basic.{flag};
 ghost use Rattle.format.specs.Leads.{mark, option};
+ghost use Rattle.format.specs.Count.{silent};
 ghost use Rattle.format.specs.Walk.{Walks};
 ghost use Rattle.leb128.specs.Formats.{u32, index};
 ghost use Rattle.texts.specs.Words.{word};
@@ -15,7 +16,7 @@ ghost use Rattle.prefixes.specs.Prefix.{supersWords, supersLead};
 
 // k and an index, where the flag says that there is one.
 pub fn walk_option(k: u8, words: &[u32], at: usize, out: &mut [u8], s: Done) -> Walk
-    ensures { λ r. ⌜ Walks (opt word) (option k u32 .print) (λ x. 9) (now (words .entry)) at (now (out .entry)) s (now (out .exit)) r ⌝ }
+    ensures { λ r. ⌜ Walks (opt word) (option k u32 .print) silent (now (words .entry)) at (now (out .entry)) s (now (out .exit)) r ⌝ }
 {
     if words.len() <= at {
         return Walk::No;
@@ -38,7 +39,7 @@ pub fn walk_option(k: u8, words: &[u32], at: usize, out: &mut [u8], s: Done) -> 
 }
 
 pub fn walk_shared(words: &[u32], at: usize, out: &mut [u8], s: Done) -> Walk
-    ensures { λ r. ⌜ Walks flag (mark 0x65 .print) (λ x. 9) (now (words .entry)) at (now (out .entry)) s (now (out .exit)) r ⌝ }
+    ensures { λ r. ⌜ Walks flag (mark 0x65 .print) silent (now (words .entry)) at (now (out .entry)) s (now (out .exit)) r ⌝ }
 {
     if words.len() <= at {
         return Walk::No;
@@ -55,7 +56,7 @@ pub fn walk_shared(words: &[u32], at: usize, out: &mut [u8], s: Done) -> Walk
 
 // Final without supertypes has no prefix.
 pub fn walk_supers(words: &[u32], at: usize, out: &mut [u8], s: Done) -> Walk
-    ensures { λ r. ⌜ Walks supersWords (supersLead .print) (λ x. 9) (now (words .entry)) at (now (out .entry)) s (now (out .exit)) r ⌝ }
+    ensures { λ r. ⌜ Walks supersWords (supersLead .print) silent (now (words .entry)) at (now (out .entry)) s (now (out .exit)) r ⌝ }
 {
     if words.len() <= at {
         return Walk::No;

@@ -10,7 +10,16 @@ use lib.ListN.{length, getD, drop}
 use borrow.Author.Tests.{lt-ltb, ne-eqb}
 use Rattle.format.specs.Parsed.{Parsed, fail, got, map, map-map, fromOption}
 use Rattle.format.specs.Basic.{find}
-use Rattle.format.specs.Read.{drop-more, placeOf, rest-at}
+use Rattle.format.specs.Read.{drop-more, drop-end, placeOf, rest-at}
+use Rattle.format.specs.Count.{Adds, silent}
+use Rattle.format.specs.Steps.{nothing-there, value-there}
+use Rattle.format.specs.Walk.{Walks}
+use Rattle.format.specs.declared.Done.{Done}
+use Rattle.format.specs.declared.Walk.the-variants as walks
+use Rattle.types.specs.Words.{refWords}
+use Rattle.types.specs.declared.HeapAt.{HeapAt}
+use Rattle.types.specs.declared.HeapAt.the-variants.{No}
+use Rattle.types.specs.declared.RefAt.{RefAt}
 use Rattle.leb128.specs.Formats.{u32, index}
 use Rattle.types.specs.Abstract.{abstracts, byteOf, abstractByte}
 use Rattle.types.specs.Bytes.{Abs, absOf, absBytes, idxFrom, idxBytes, heapFrom, heapBytes, nullOf, nonNullOf, refFromSum, refBytes}
@@ -126,3 +135,39 @@ ref-told s at r p e = go (refBytes .parse (drop at s)) refl e
 pub ref-told-not : (s : List ℕ) (m : Parsed RefType) → refAt s m ≡ places.No → m ≡ fail
 ref-told-not s fail e = refl
 ref-told-not s (got t l) e = let z : _≡_ {A = ℕ} 0 1 = cc in absurd (omega arith)
+
+-- ---- what the finders tell, by what was read: laws that leave out all that `search` finds
+
+module _ (w : List ℕ) (at : ℕ) (k : at < length w) (found : HeapAt) where
+  pub exact-found : getD w at 0 ≡ 0x62 → found ≡ heapAt w (map idxFrom (idxBytes .parse (drop at w))) → found ≡ heapAt w (heapBytes .parse (drop at w))
+  exact-found e d = d ∙ ap (heapAt w) (sym (heap-exact w at k e))
+
+  pub abstract-found : (getD w at 0 ≡ 0x62 → ⊥) → getD w at 0 / 64 ≡ 1 → found ≡ heapAt w (map absOf (absBytes .parse (drop at w))) → found ≡ heapAt w (heapBytes .parse (drop at w))
+  abstract-found n e d = d ∙ ap (heapAt w) (sym (heap-abstract w at k n e))
+
+  pub concrete-found : (getD w at 0 ≡ 0x62 → ⊥) → (getD w at 0 / 64 ≡ 1 → ⊥) → found ≡ heapAt w (map idxFrom (idxBytes .parse (drop at w))) → found ≡ heapAt w (heapBytes .parse (drop at w))
+  concrete-found n m d = d ∙ ap (heapAt w) (sym (heap-concrete w at k n m))
+
+  module _ (r : RefAt) where
+    pub non-null-found : getD w at 0 ≡ 0x64 → found ≡ heapAt w (heapBytes .parse (drop (at + 1) w)) → r ≡ refPlaced false found → r ≡ refAt w (refBytes .parse (drop at w))
+    non-null-found e d p = p ∙ ap (refPlaced false) d ∙ placed-is w false (heapBytes .parse (drop (at + 1) w)) ∙ ap (refAt w) (sym (ref-non-null w at k e))
+
+    pub null-found : getD w at 0 ≡ 0x63 → found ≡ heapAt w (map idxFrom (idxBytes .parse (drop (at + 1) w))) → r ≡ refPlaced true found → r ≡ refAt w (refBytes .parse (drop at w))
+    null-found e d p = p ∙ ap (refPlaced true) d ∙ placed-is w true (map idxFrom (idxBytes .parse (drop (at + 1) w))) ∙ ap (refAt w) (sym (ref-null w at k e))
+
+    pub alone-found : (getD w at 0 ≡ 0x64 → ⊥) → (getD w at 0 ≡ 0x63 → ⊥) → found ≡ heapAt w (map absOf (absBytes .parse (drop at w))) → r ≡ refPlaced true found → r ≡ refAt w (refBytes .parse (drop at w))
+    alone-found n m d p = p ∙ ap (refPlaced true) d ∙ placed-is w true (map absOf (absBytes .parse (drop at w))) ∙ ap (refAt w) (sym (ref-alone w at k n m))
+
+pub no-heap : (w : List ℕ) (at : ℕ) → length w ≤ at → No ≡ heapAt w (heapBytes .parse (drop at w))
+no-heap w at h = rw (drop-end w at h)
+
+pub no-ref : (w : List ℕ) (at : ℕ) → length w ≤ at → places.No ≡ refAt w (refBytes .parse (drop at w))
+no-ref w at h = rw (drop-end w at h)
+
+module _ {w : List ℕ} {at : ℕ} {old : List ℕ} {s : Done} {new : List ℕ} {found : RefAt} where
+  pub ref-missing : found ≡ refAt w (refBytes .parse (drop at w)) → found ≡ places.No → Walks refBytes (refWords .print) silent w at old s new walks.No
+  ref-missing d e = nothing-there (ref-told-not w (refBytes .parse (drop at w)) (sym d ∙ e))
+
+  pub ref-there : {v : RefType} {p : ℕ} {u : Done} → found ≡ places.Is v p → found ≡ refAt w (refBytes .parse (drop at w)) → Adds (refWords .print v) 9 old s new u
+      → Walks refBytes (refWords .print) silent w at old s new (walks.Got p u)
+  ref-there {v} {p} e d a = let g = ref-told w at v p (sym d ∙ e) in value-there a (g .0) (g .1)

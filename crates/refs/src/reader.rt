@@ -12,7 +12,7 @@ use types::RefType;
 ghost use mathlib.Core.Path.{_≡_};
 ghost use lib.ListN.{drop};
 ghost use Rattle.format.specs.Basic.{bit as bitOf};
-ghost use Rattle.format.specs.Count.{Adds};
+ghost use Rattle.format.specs.Count.{Adds, silent};
 ghost use Rattle.format.specs.Parsed.{map};
 ghost use Rattle.format.specs.Walk.{Walks};
 ghost use Rattle.types.specs.Words.{refTo, refWords};
@@ -147,7 +147,7 @@ pub fn append_ref_words(r: RefType, out: &mut [u32], s: Done) -> Done
 
 // Reads the reference at a place and appends its two words.
 pub fn read_ref(b: &[u8], at: usize, out: &mut [u32], s: Done) -> Walk
-    ensures { λ r. ⌜ Walks refBytes (refWords .print) (λ x. 9) (now (b .entry)) at (now (out .entry)) s (now (out .exit)) r ⌝ }
+    ensures { λ r. ⌜ Walks refBytes (refWords .print) silent (now (b .entry)) at (now (out .entry)) s (now (out .exit)) r ⌝ }
 {
     let RefAt::Is(r, p) = find_ref(b, at) else {
         return Walk::No;

@@ -7,7 +7,7 @@ use numbers::append_u32;
 use types::HeapType;
 use types::RefRead;
 use types::RefType;
-ghost use Rattle.format.specs.Count.{Adds};
+ghost use Rattle.format.specs.Count.{Adds, silent};
 ghost use Rattle.format.specs.Walk.{Walks};
 ghost use Rattle.types.specs.Words.{refWords};
 ghost use Rattle.types.specs.Bytes.{heapBytes, refBytes};
@@ -49,7 +49,7 @@ pub fn append_ref(r: RefType, out: &mut [u8], s: Done) -> Done
 
 // Reads a reference's two words and appends its bytes.
 pub fn walk_ref(words: &[u32], at: usize, out: &mut [u8], s: Done) -> Walk
-    ensures { λ r. ⌜ Walks refWords (refBytes .print) (λ x. 9) (now (words .entry)) at (now (out .entry)) s (now (out .exit)) r ⌝ }
+    ensures { λ r. ⌜ Walks refWords (refBytes .print) silent (now (words .entry)) at (now (out .entry)) s (now (out .exit)) r ⌝ }
 {
     if words.len() <= at {
         return Walk::No;

@@ -5,12 +5,13 @@ use format::Walk;
 use prefixes::read_option;
 use prefixes::read_shared;
 use prefixes::read_supers;
+ghost use Rattle.format.specs.Count.{silent};
 ghost use Rattle.format.specs.Walk.{Walks};
 ghost use Rattle.leb128.specs.Formats.{u32};
 ghost use Rattle.subtypes.specs.SubType.{describedWords, describedBytes, subWords, subBytes};
 
 fn read_described(b: &[u8], at: usize, out: &mut [u32], s: Done) -> Walk
-    ensures { λ r. ⌜ Walks describedBytes (describedWords .print) (λ x. 9) (now (b .entry)) at (now (out .entry)) s (now (out .exit)) r ⌝ }
+    ensures { λ r. ⌜ Walks describedBytes (describedWords .print) silent (now (b .entry)) at (now (out .entry)) s (now (out .exit)) r ⌝ }
 {
     let Walk::Got(p, t) = read_option(0x4C, b, at, out, s) else {
         return Walk::No;
@@ -22,7 +23,7 @@ fn read_described(b: &[u8], at: usize, out: &mut [u32], s: Done) -> Walk
 }
 
 pub fn read_sub(b: &[u8], at: usize, out: &mut [u32], s: Done) -> Walk
-    ensures { λ r. ⌜ Walks subBytes (subWords .print) (λ x. 9) (now (b .entry)) at (now (out .entry)) s (now (out .exit)) r ⌝ }
+    ensures { λ r. ⌜ Walks subBytes (subWords .print) silent (now (b .entry)) at (now (out .entry)) s (now (out .exit)) r ⌝ }
 {
     let Walk::Got(p, t) = read_supers(b, at, out, s) else {
         return Walk::No;

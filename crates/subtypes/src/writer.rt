@@ -5,12 +5,13 @@ use format::Walk;
 use prefixes::walk_option;
 use prefixes::walk_shared;
 use prefixes::walk_supers;
+ghost use Rattle.format.specs.Count.{silent};
 ghost use Rattle.format.specs.Walk.{Walks};
 ghost use Rattle.leb128.specs.Formats.{u32};
 ghost use Rattle.subtypes.specs.SubType.{describedWords, describedBytes, subWords, subBytes};
 
 fn walk_described(words: &[u32], at: usize, out: &mut [u8], s: Done) -> Walk
-    ensures { λ r. ⌜ Walks describedWords (describedBytes .print) (λ x. 9) (now (words .entry)) at (now (out .entry)) s (now (out .exit)) r ⌝ }
+    ensures { λ r. ⌜ Walks describedWords (describedBytes .print) silent (now (words .entry)) at (now (out .entry)) s (now (out .exit)) r ⌝ }
 {
     let Walk::Got(p, t) = walk_option(0x4C, words, at, out, s) else {
         return Walk::No;
@@ -22,7 +23,7 @@ fn walk_described(words: &[u32], at: usize, out: &mut [u8], s: Done) -> Walk
 }
 
 pub fn walk_sub(words: &[u32], at: usize, out: &mut [u8], s: Done) -> Walk
-    ensures { λ r. ⌜ Walks subWords (subBytes .print) (λ x. 9) (now (words .entry)) at (now (out .entry)) s (now (out .exit)) r ⌝ }
+    ensures { λ r. ⌜ Walks subWords (subBytes .print) silent (now (words .entry)) at (now (out .entry)) s (now (out .exit)) r ⌝ }
 {
     let Walk::Got(p, t) = walk_supers(words, at, out, s) else {
         return Walk::No;

@@ -1,68 +1,161 @@
--- Tables at a place: by the first word, and by the first bytes. Assumes nothing.
+-- How the walks over tables and their like are put together: by the first word, and by the first bytes. Assumes nothing.
 use mathlib.Core.Path.{_≡_, refl, sym, ap, _∙_}
 use mathlib.Core.Bool.{Bool, true, false}
 use mathlib.Core.List.{List, [], _∷_, append-nil}
 use Prim.Native.Nat.{ℕ, _+_, _-_, _<_, _≤_}
 use native.Mathlib.Omega.{arith}
 use lib.ListN.{length, getD, drop}
-use borrow.Author.Tests.{ne-eqb, eq-eqb}
-use Rattle.format.specs.Parsed.{fail, map}
+use borrow.Author.Tests.{ne-eqb}
+use Rattle.format.specs.Parsed.{map}
 use Rattle.format.specs.Basic.{bit, flag}
-use Rattle.format.specs.Count.{Adds}
-use Rattle.format.specs.Read.{drop-more, drop-end, drop-two, one-read, none-read}
+use Rattle.format.specs.Count.{Adds, silent, adds-seq}
+use Rattle.format.specs.Read.{reading, drop-more, drop-end, drop-two, one-read, none-read}
 use Rattle.format.specs.Sequence.{Joins, joins}
+use Rattle.format.specs.Steps.{nothing-there, nothing-left, value-there, Renames, second-follows}
 use Rattle.format.specs.Told.{one-at}
-use Rattle.format.specs.Walk.{walks-no, walked-as}
+use Rattle.format.specs.Walk.{Walks, walked-as, no-walks, got-walks}
 use Rattle.format.specs.declared.Done.{Done}
 use Rattle.format.specs.declared.Walk.{Walk}
 use Rattle.format.specs.declared.Walk.the-variants as walks
-use Rattle.types.specs.Vals.{unused}
-use Rattle.parts.specs.Writing.{Writing, itemOf, lowOf}
-use Rattle.parts.specs.Reading.{Reading, recordAt}
+use Rattle.leb128.specs.Formats.{u32}
+use Rattle.leb128.specs.Leb.{uleb}
+use Rattle.numbers.specs.Answers.{readU32}
+use Rattle.numbers.specs.Told.{number-missing, number-found, number-place}
+use Rattle.numbers.specs.declared.ReadU32.{ReadU32}
+use Rattle.numbers.specs.declared.ReadU32.the-variants as U32
+use Rattle.texts.specs.Steps.{AreWords, word-read}
+use Rattle.types.specs.Words.{refWords}
+use Rattle.types.specs.Bytes.{refBytes}
+use Rattle.types.specs.Vals.{unused, valWords, valBytes}
+use Rattle.limits.specs.Limits.{limitsWords, limitsBytes}
+use Rattle.parts.specs.Text.{expression}
+use Rattle.parts.specs.Both.{both, behind}
+use Rattle.parts.specs.Writing.{Writing, itemOf, lowOf, textless-writes, plain-missing, part-follows-plain, behind-writing}
+use Rattle.parts.specs.Reading.{Reading, recordAt, textless-reads, two-reads}
 use Rattle.parts.specs.Chosen.{chosen-writing}
-use Rattle.tables.specs.TableType.{tableWords, tableBytes}
-use Rattle.tables.specs.Table.{TableOf, Table, bareWords, form, hasInit, bytes, tableSection}
+use Rattle.tables.specs.TableType.{memoryOf, memoryWords, memoryBytes, tableWords, tableBytes, table-agree, table-joins}
+use Rattle.tables.specs.GlobalType.{globalWords, globalBytes, global-joins}
+use Rattle.tables.specs.TagType.{exceptionOf, tagWords, tagBytes}
+use Rattle.tables.specs.Table.{TableOf, Table, tableType, bareWords, bare-agree, form, hasInit, bytes, tableSection}
+
+-- ---- one behind the other
+
+pub memory-read : Renames (limitsBytes .parse) (limitsWords .print) silent (memoryBytes .parse) (memoryWords .print) silent
+memory-read = record { name = memoryOf; reads = λ s. refl; writes = λ l. refl; draws = λ l. refl }
+
+pub memory-walk : Renames (limitsWords .parse) (limitsBytes .print) silent (memoryWords .parse) (memoryBytes .print) silent
+memory-walk = record { name = memoryOf; reads = λ s. refl; writes = λ l. refl; draws = λ l. refl }
+
+pub table-read : Joins (refBytes .parse) (refWords .print) silent (limitsBytes .parse) (limitsWords .print) silent (tableBytes .parse) (tableWords .print) silent
+table-read = table-joins refBytes refWords limitsBytes limitsWords
+
+pub table-walk : Joins (refWords .parse) (refBytes .print) silent (limitsWords .parse) (limitsBytes .print) silent (tableWords .parse) (tableBytes .print) silent
+table-walk = table-joins refWords refBytes limitsWords limitsBytes
+
+pub global-read : Joins (valBytes .parse) (valWords .print) silent (flag .parse) (flag .print) silent (globalBytes .parse) (globalWords .print) silent
+global-read = global-joins valBytes valWords
+
+pub global-walk : Joins (valWords .parse) (valBytes .print) silent (flag .parse) (flag .print) silent (globalWords .parse) (globalBytes .print) silent
+global-walk = global-joins valWords valBytes
 
 -- a table type, and two unused words
-abbrev pub bare-joins : Joins (tableWords .parse) (tableBytes .print) (λ t. 9) (unused .parse) (λ u. []) (λ u. 9) (bareWords .parse) (tableBytes .print) (λ t. 9)
-bare-joins = joins tableWords (tableBytes .print) unused (λ u. []) bareWords (tableBytes .print) (λ p. p .0) (λ s. refl) (λ t u. append-nil (tableBytes .print t))
+pub bare-walk : Joins (tableWords .parse) (tableBytes .print) silent (unused .parse) (λ u. []) silent (bareWords .parse) (tableBytes .print) silent
+bare-walk = joins tableWords (tableBytes .print) unused (λ u. []) bareWords (tableBytes .print) (λ p. p .0) (λ s. refl) (λ t u. append-nil (tableBytes .print t))
 
--- ---- words
+module _ {w : List ℕ} {at : ℕ} {old : List ℕ} {s : Done} {new : List ℕ} {r : Walk} where
+  pub unused-follows : {p : ℕ} {u : Done} {r′ : Walk} → Walks tableWords (tableBytes .print) silent w at old s new r → r ≡ walks.Got p u
+      → ((out : List ℕ) → Walks unused (λ x. []) silent w p out u out r′) → Walks bareWords (tableBytes .print) silent w at old s new r′
+  unused-follows h e k = second-follows bare-walk h e (k new)
 
-module _ (t w : List ℕ) (at : ℕ) (old : List ℕ) (s : Done) (new : List ℕ) where
+  pub bare-missing : Walks tableBytes (tableWords .print) silent w at old s new r → r ≡ walks.No → Walks tableBytes (bareWords .print) silent w at old s new walks.No
+  bare-missing h e = nothing-there (no-walks tableBytes (tableWords .print) silent w at old s new r h e)
+
+  pub bare-there : {cur : List ℕ} {p : ℕ} {t u : Done} → Walks tableBytes (tableWords .print) silent w at old s cur r → r ≡ walks.Got p t → Adds (0 ∷ 0 ∷ []) 9 cur t new u
+      → Walks tableBytes (bareWords .print) silent w at old s new (walks.Got p u)
+  bare-there {cur} {p} {t} h e a =
+      let g = got-walks tableBytes (tableWords .print) silent w at old s cur r p t h e in
+      value-there (adds-seq (g .adds) a) (g .read) (g .place)
+
+-- ---- tags
+
+module _ {w : List ℕ} {at : ℕ} (h : at < length w) where
+  pub no-tag : {old : List ℕ} {s : Done} {new : List ℕ} → (getD w at 0 ≡ 0 → ⊥) → Walks tagBytes (tagWords .print) silent w at old s new walks.No
+  no-tag n = nothing-there (rw (drop-more w at h, ne-eqb (getD w at 0) 0 n))
+
+  module _ {old : List ℕ} {s : Done} {new : List ℕ} (z : getD w at 0 ≡ 0) {r : ReadU32} (d : readU32 r ≡ reading 0 w (u32 .parse (drop (at + 1) w))) where
+    pub tag-missing : r ≡ U32.Nothing → Walks tagBytes (tagWords .print) silent w at old s new walks.No
+    tag-missing e = nothing-there (rw (drop-more w at h, z, number-missing u32 w (at + 1) r d e))
+
+    pub tag-there : {x p : ℕ} {u : Done} → r ≡ U32.Value x p → Adds (x ∷ []) 9 old s new u → Walks tagBytes (tagWords .print) silent w at old s new (walks.Got p u)
+    tag-there {x} e a = value-there {a = exceptionOf x} a (rw (drop-more w at h, z, number-found u32 w (at + 1) r d e)) (number-place u32 w (at + 1) r d e)
+
+  pub tag-word : {old : List ℕ} {s : Done} {cur : List ℕ} {t : Done} {new : List ℕ} {u : Done} → Adds (0 ∷ []) 9 old s cur t → Adds (uleb (getD w at 0)) 9 cur t new u → AreWords w
+      → Walks tagWords (tagBytes .print) silent w at old s new (walks.Got (at + 1) u)
+  tag-word a b k = value-there {a = exceptionOf (getD w at 0)} (adds-seq a b) (ap (map exceptionOf) (word-read w at h k)) (omega arith)
+
+-- ---- words of a table
+
+module _ {t w : List ℕ} {at : ℕ} {old : List ℕ} {s : Done} {new : List ℕ} where
   pub words-empty : length w ≤ at → Writing tableSection t w at old s new walks.No
-  words-empty h = walks-no (tableSection .words) (itemOf tableSection t) (lowOf tableSection t) w at old s new (rw (drop-end w at h))
+  words-empty h = record { writes = nothing-left h refl }
 
-  module _ (h : at < length w) where
-    pub form-word : (i : Bool) → getD w at 0 ≡ bit i → (r : Walk) → Writing (form i) t w (at + 1) old s new r → Writing tableSection t w at old s new r
-    form-word i e r x =
-        chosen-writing flag (λ i. tt) form bytes (λ x. (λ h. h, λ h. h)) (λ x. refl) i t w at (at + 1) old s new r (one-read flag i (bit i) tt refl w at h e) x
+  form-word : (i : Bool) → at < length w → getD w at 0 ≡ bit i → {r : Walk} → Writing (form i) t w (at + 1) old s new r → Writing tableSection t w at old s new r
+  form-word i h e {r} x =
+      chosen-writing flag (λ i. tt) form bytes (λ x. (λ h. h, λ h. h)) (λ x. refl) i t w at (at + 1) old s new r (one-read flag i (bit i) tt refl w at h e) x
 
-    pub no-form : ((i : Bool) → getD w at 0 ≡ bit i → ⊥) → Writing tableSection t w at old s new walks.No
-    no-form n = walks-no (tableSection .words) (itemOf tableSection t) (lowOf tableSection t) w at old s new (rw (none-read flag bit (λ i. refl) w at h n))
+  module _ (h : at < length w) {r : Walk} where
+    pub bare-writes : getD w at 0 ≡ 0 → Walks bareWords (tableBytes .print) silent w (at + 1) old s new r → Writing tableSection t w at old s new r
+    bare-writes e x = form-word false h e (textless-writes bareWords tableBytes bare-agree x)
 
--- ---- bytes
+    pub init-writes : getD w at 0 ≡ 1 → Writing (form true) t w (at + 1) old s new r → Writing tableSection t w at old s new r
+    init-writes e x = form-word true h e x
 
-module _ (b : List ℕ) (at : ℕ) (old : List ℕ) (s : Done) (new : List ℕ) where
+  pub no-form : at < length w → (getD w at 0 ≡ 0 → ⊥) → (getD w at 0 ≡ 1 → ⊥) → Writing tableSection t w at old s new walks.No
+  no-form h n o = record { writes = nothing-there (rw (none-read flag bit (λ i. refl) w at h (elim [ false ↦ n | true ↦ o ]))) }
+
+  -- 40 00, a table type, and the span of its initial value
+  module _ {o₁ o₂ : List ℕ} {s₁ s₂ : Done} (a : Adds (0x40 ∷ []) 9 old s o₁ s₁) (b : Adds (0x00 ∷ []) 9 o₁ s₁ o₂ s₂) where
+    marked : {r′ : Walk} → Writing (both tableType expression) t w at o₂ s₂ new r′ → Writing (form true) t w at old s new r′
+    marked {r′} x =
+        behind-writing 0x40 (behind 0x00 (both tableType expression)) t w at old s o₁ s₁ new r′ a (behind-writing 0x00 (both tableType expression) t w at o₁ s₁ o₂ s₂ new r′ b x)
+
+    pub init-missing : {r : Walk} → Walks tableWords (tableBytes .print) silent w at o₂ s₂ new r → r ≡ walks.No → Writing (form true) t w at old s new walks.No
+    init-missing h e = marked (plain-missing tableWords tableBytes table-agree expression h e)
+
+    pub init-there : {cur : List ℕ} {p : ℕ} {u : Done} {r r′ : Walk} → Walks tableWords (tableBytes .print) silent w at o₂ s₂ cur r → r ≡ walks.Got p u → Writing expression t w p cur u new r′
+        → Writing (form true) t w at old s new r′
+    init-there h e k = marked (part-follows-plain tableWords tableBytes table-agree expression h e k)
+
+-- ---- bytes of a table
+
+module _ {b : List ℕ} {at : ℕ} {old : List ℕ} {s : Done} {new : List ℕ} where
   pub bytes-empty : length b ≤ at → Reading tableSection b at old s new walks.No
-  bytes-empty k h = walks-no bytes (recordAt tableSection at) (λ x. 9) b at old s new (rw (drop-end b at k))
+  bytes-empty k = record { reads = λ h. nothing-left k refl }
 
-  pub form-reads : (i : Bool) → hasInit (drop at b) ≡ i → (cur : List ℕ) (u : Done) (r : Walk) → Adds (bit i ∷ []) 9 old s cur u → Reading (form i) b at cur u new r
+  form-reads : (i : Bool) → hasInit (drop at b) ≡ i → {cur : List ℕ} {u : Done} {r : Walk} → Adds (bit i ∷ []) 9 old s cur u → Reading (form i) b at cur u new r
       → Reading tableSection b at old s new r
-  form-reads i e cur u r a x h =
-      walked-as (recordAt (form i) at) (λ y. 9) (recordAt tableSection at) (λ y. 9) (λ y. (i, y)) (bit i ∷ []) 9 b (form i .bytes .parse (drop at b)) (bytes .parse (drop at b)) old s cur u new r
-      (one-at hasInit (λ i. form i .bytes) i (drop at b) e) (λ y q p. refl) (λ y. refl) a (x h)
+  form-reads i e {cur} {u} {r} a x =
+      record {
+        reads = λ h. record {
+          walked = walked-as (recordAt (form i) at) silent (recordAt tableSection at) silent (λ y. (i, y)) (bit i ∷ []) 9 b (form i .bytes .parse (drop at b)) (bytes .parse (drop at b)) old s cur u new r
+              (one-at hasInit (λ i. form i .bytes) i (drop at b) e) (λ y q p. refl) (λ y. refl) a (x .reads h .walked);
+        };
+      }
 
   module _ (h : at < length b) where
-    pub is-bare : (getD b at 0 ≡ 0x40 → ⊥) → hasInit (drop at b) ≡ false
-    is-bare n = rw (drop-more b at h, ne-eqb (getD b at 0) 0x40 n)
+    pub bare-reads : {cur : List ℕ} {u : Done} {r : Walk} → (getD b at 0 ≡ 0x40 → ⊥) → Adds (0 ∷ []) 9 old s cur u → Walks tableBytes (bareWords .print) silent b at cur u new r
+        → Reading tableSection b at old s new r
+    bare-reads n a x = form-reads false (rw (drop-more b at h, ne-eqb (getD b at 0) 0x40 n)) a (textless-reads bareWords tableBytes bare-agree x)
 
     module _ (e : getD b at 0 ≡ 0x40) where
-      pub is-init : hasInit (drop at b) ≡ true
-      is-init = rw (drop-more b at h, e)
-
       pub init-short : length b - at < 2 → Reading tableSection b at old s new walks.No
-      init-short k l = walks-no bytes (recordAt tableSection at) (λ x. 9) b at old s new (rw (drop-more b at h, e, drop-end b (at + 1) (omega arith)))
+      init-short k = record { reads = λ l. nothing-there (rw (drop-more b at h, e, drop-end b (at + 1) (omega arith))) }
 
-      pub init-other : 2 ≤ length b - at → (getD b (at + 1) 0 ≡ 0 → ⊥) → Reading tableSection b at old s new walks.No
-      init-other k n l = walks-no bytes (recordAt tableSection at) (λ x. 9) b at old s new (rw (drop-two b at (omega arith), e, ne-eqb (getD b (at + 1) 0) 0 n))
+      module _ (k : 2 ≤ length b - at) where
+        pub init-other : (getD b (at + 1) 0 ≡ 0 → ⊥) → Reading tableSection b at old s new walks.No
+        init-other n = record { reads = λ l. nothing-there (rw (drop-two b at (omega arith), e, ne-eqb (getD b (at + 1) 0) 0 n)) }
+
+        pub init-reads : {cur : List ℕ} {u : Done} {r : Walk} → getD b (at + 1) 0 ≡ 0 → Adds (1 ∷ []) 9 old s cur u → Reading (both tableType expression) b (at + 2) cur u new r
+            → Reading tableSection b at old s new r
+        init-reads {cur} {u} {r} z a x =
+            form-reads true (rw (drop-more b at h, e)) a (two-reads 0x40 0x00 (both tableType expression) b at cur u new r (omega arith) e z x)

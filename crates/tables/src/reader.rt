@@ -12,6 +12,7 @@ use vals::read_mutable;
 use vals::read_val;
 ghost use Prim.Native.Nat.{_≤_};
 ghost use lib.ListN.{length};
+ghost use Rattle.format.specs.Count.{silent};
 ghost use Rattle.format.specs.Walk.{Walks};
 ghost use Rattle.parts.specs.Text.{expression};
 ghost use Rattle.parts.specs.Both.{both};
@@ -22,13 +23,13 @@ ghost use Rattle.tables.specs.TagType.{tagWords, tagBytes};
 ghost use Rattle.tables.specs.Table.{bareWords, tableType, tableSection};
 
 pub fn read_memory_type(b: &[u8], at: usize, out: &mut [u32], s: Done) -> Walk
-    ensures { λ r. ⌜ Walks memoryBytes (memoryWords .print) (λ x. 9) (now (b .entry)) at (now (out .entry)) s (now (out .exit)) r ⌝ }
+    ensures { λ r. ⌜ Walks memoryBytes (memoryWords .print) silent (now (b .entry)) at (now (out .entry)) s (now (out .exit)) r ⌝ }
 {
     read_limits(b, at, out, s)
 }
 
 pub fn read_table_type(b: &[u8], at: usize, out: &mut [u32], s: Done) -> Walk
-    ensures { λ r. ⌜ Walks tableBytes (tableWords .print) (λ x. 9) (now (b .entry)) at (now (out .entry)) s (now (out .exit)) r ⌝ }
+    ensures { λ r. ⌜ Walks tableBytes (tableWords .print) silent (now (b .entry)) at (now (out .entry)) s (now (out .exit)) r ⌝ }
 {
     let Walk::Got(p, t) = read_ref(b, at, out, s) else {
         return Walk::No;
@@ -37,7 +38,7 @@ pub fn read_table_type(b: &[u8], at: usize, out: &mut [u32], s: Done) -> Walk
 }
 
 pub fn read_global_type(b: &[u8], at: usize, out: &mut [u32], s: Done) -> Walk
-    ensures { λ r. ⌜ Walks globalBytes (globalWords .print) (λ x. 9) (now (b .entry)) at (now (out .entry)) s (now (out .exit)) r ⌝ }
+    ensures { λ r. ⌜ Walks globalBytes (globalWords .print) silent (now (b .entry)) at (now (out .entry)) s (now (out .exit)) r ⌝ }
 {
     let Walk::Got(p, t) = read_val(b, at, out, s) else {
         return Walk::No;
@@ -47,7 +48,7 @@ pub fn read_global_type(b: &[u8], at: usize, out: &mut [u32], s: Done) -> Walk
 
 // 00 says that it is an exception.
 pub fn read_tag_type(b: &[u8], at: usize, out: &mut [u32], s: Done) -> Walk
-    ensures { λ r. ⌜ Walks tagBytes (tagWords .print) (λ x. 9) (now (b .entry)) at (now (out .entry)) s (now (out .exit)) r ⌝ }
+    ensures { λ r. ⌜ Walks tagBytes (tagWords .print) silent (now (b .entry)) at (now (out .entry)) s (now (out .exit)) r ⌝ }
 {
     if b.len() <= at {
         return Walk::No;
@@ -63,7 +64,7 @@ pub fn read_tag_type(b: &[u8], at: usize, out: &mut [u32], s: Done) -> Walk
 
 // A table type, and two unused words behind its own.
 fn read_bare(b: &[u8], at: usize, out: &mut [u32], s: Done) -> Walk
-    ensures { λ r. ⌜ Walks tableBytes (bareWords .print) (λ x. 9) (now (b .entry)) at (now (out .entry)) s (now (out .exit)) r ⌝ }
+    ensures { λ r. ⌜ Walks tableBytes (bareWords .print) silent (now (b .entry)) at (now (out .entry)) s (now (out .exit)) r ⌝ }
 {
     let Walk::Got(p, t) = read_table_type(b, at, out, s) else {
         return Walk::No;

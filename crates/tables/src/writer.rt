@@ -10,6 +10,7 @@ use refs::walk_ref;
 use vals::walk_mutable;
 use vals::walk_val;
 ghost use mathlib.Core.Bool.{true};
+ghost use Rattle.format.specs.Count.{silent};
 ghost use Rattle.format.specs.Walk.{Walks};
 ghost use Rattle.parts.specs.Writing.{Writing};
 ghost use Rattle.tables.specs.TableType.{tableWords, tableBytes, memoryWords, memoryBytes};
@@ -18,13 +19,13 @@ ghost use Rattle.tables.specs.TagType.{tagWords, tagBytes};
 ghost use Rattle.tables.specs.Table.{bareWords, form, tableSection};
 
 pub fn walk_memory_type(words: &[u32], at: usize, out: &mut [u8], s: Done) -> Walk
-    ensures { λ r. ⌜ Walks memoryWords (memoryBytes .print) (λ x. 9) (now (words .entry)) at (now (out .entry)) s (now (out .exit)) r ⌝ }
+    ensures { λ r. ⌜ Walks memoryWords (memoryBytes .print) silent (now (words .entry)) at (now (out .entry)) s (now (out .exit)) r ⌝ }
 {
     walk_limits(words, at, out, s)
 }
 
 pub fn walk_table_type(words: &[u32], at: usize, out: &mut [u8], s: Done) -> Walk
-    ensures { λ r. ⌜ Walks tableWords (tableBytes .print) (λ x. 9) (now (words .entry)) at (now (out .entry)) s (now (out .exit)) r ⌝ }
+    ensures { λ r. ⌜ Walks tableWords (tableBytes .print) silent (now (words .entry)) at (now (out .entry)) s (now (out .exit)) r ⌝ }
 {
     let Walk::Got(p, t) = walk_ref(words, at, out, s) else {
         return Walk::No;
@@ -33,7 +34,7 @@ pub fn walk_table_type(words: &[u32], at: usize, out: &mut [u8], s: Done) -> Wal
 }
 
 pub fn walk_global_type(words: &[u32], at: usize, out: &mut [u8], s: Done) -> Walk
-    ensures { λ r. ⌜ Walks globalWords (globalBytes .print) (λ x. 9) (now (words .entry)) at (now (out .entry)) s (now (out .exit)) r ⌝ }
+    ensures { λ r. ⌜ Walks globalWords (globalBytes .print) silent (now (words .entry)) at (now (out .entry)) s (now (out .exit)) r ⌝ }
 {
     let Walk::Got(p, t) = walk_val(words, at, out, s) else {
         return Walk::No;
@@ -43,7 +44,7 @@ pub fn walk_global_type(words: &[u32], at: usize, out: &mut [u8], s: Done) -> Wa
 
 // 00 says that it is an exception.
 pub fn walk_tag_type(words: &[u32], at: usize, out: &mut [u8], s: Done) -> Walk
-    ensures { λ r. ⌜ Walks tagWords (tagBytes .print) (λ x. 9) (now (words .entry)) at (now (out .entry)) s (now (out .exit)) r ⌝ }
+    ensures { λ r. ⌜ Walks tagWords (tagBytes .print) silent (now (words .entry)) at (now (out .entry)) s (now (out .exit)) r ⌝ }
 {
     if words.len() <= at {
         return Walk::No;
@@ -54,7 +55,7 @@ pub fn walk_tag_type(words: &[u32], at: usize, out: &mut [u8], s: Done) -> Walk
 
 // A table type, and the two unused words of a table without an initial value.
 fn walk_bare(words: &[u32], at: usize, out: &mut [u8], s: Done) -> Walk
-    ensures { λ r. ⌜ Walks bareWords (tableBytes .print) (λ x. 9) (now (words .entry)) at (now (out .entry)) s (now (out .exit)) r ⌝ }
+    ensures { λ r. ⌜ Walks bareWords (tableBytes .print) silent (now (words .entry)) at (now (out .entry)) s (now (out .exit)) r ⌝ }
 {
     let Walk::Got(p, t) = walk_table_type(words, at, out, s) else {
         return Walk::No;

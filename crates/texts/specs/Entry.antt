@@ -111,5 +111,5 @@ module _ {A : Type 0} (R : Records A) (w t : List ℕ) where
       let f = fine R w t e in
       let (ok, p, _) = record-inv R w (f .value) (f .is) in
       let k : Walked (R .item t) (λ a. lowestOf t (R .texts a)) w (got (f .value) []) old s new r =
-      subst (λ (m : Parsed A). Walked (R .item t) (λ a. lowestOf t (R .texts a)) w m old s new r) (whole-back R w (f .value) ok p) h in
+      subst (λ (m : Parsed A). Walked (R .item t) (λ a. lowestOf t (R .texts a)) w m old s new r) (whole-back R w (f .value) ok p) (h .walked) in
       rw (f .is) (k .2 .more [] (s .v) old (has-start old s (s .v) refl l) .bytes (f .fits) (rw (f .is) at room))

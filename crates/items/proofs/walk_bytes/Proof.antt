@@ -13,13 +13,13 @@ returns : tie.Need-returns
 returns c = let a = c .before .before .before .before .before .before .before .before .before .before .before .args in byte-section (a .id) (now (a .bytes)) Types (c .before .before .before .before .match .keys1) (now (a .out)) (a .s) _ _ _ _ (c .before .before .before .before .before .before .before .append-word .ensures) (c .before .before .walk-bytes .ensures)
 
 returns-2 : tie.Need-returns-2
-returns-2 c = let a = c .before .before .before .before .before .before .before .before .before .before .before .args in byte-section (a .id) (now (a .bytes)) Imports (c .before .before .before .before .match .keys2) (now (a .out)) (a .s) _ _ _ _ (c .before .before .before .before .before .before .before .append-word .ensures) (c .before .before .walk-bytes2 .ensures (omega arith))
+returns-2 c = let a = c .before .before .before .before .before .before .before .before .before .before .before .args in byte-section (a .id) (now (a .bytes)) Imports (c .before .before .before .before .match .keys2) (now (a .out)) (a .s) _ _ _ _ (c .before .before .before .before .before .before .before .append-word .ensures) (c .before .before .walk-bytes2 .ensures .reads (omega arith))
 
 returns-3 : tie.Need-returns-3
-returns-3 c = let a = c .before .before .before .before .before .before .before .before .before .before .before .args in byte-section (a .id) (now (a .bytes)) Tables (c .before .before .before .before .match .keys3) (now (a .out)) (a .s) _ _ _ _ (c .before .before .before .before .before .before .before .append-word .ensures) (c .before .before .walk-bytes3 .ensures (omega arith))
+returns-3 c = let a = c .before .before .before .before .before .before .before .before .before .before .before .args in byte-section (a .id) (now (a .bytes)) Tables (c .before .before .before .before .match .keys3) (now (a .out)) (a .s) _ _ _ _ (c .before .before .before .before .before .before .before .append-word .ensures) (c .before .before .walk-bytes3 .ensures .reads (omega arith))
 
 returns-4 : tie.Need-returns-4
-returns-4 c = let a = c .before .before .before .before .before .before .before .before .before .before .before .args in byte-section (a .id) (now (a .bytes)) Elements (c .before .before .before .before .match .keys4) (now (a .out)) (a .s) _ _ _ _ (c .before .before .before .before .before .before .before .append-word .ensures) (c .before .before .walk-bytes4 .ensures (omega arith))
+returns-4 c = let a = c .before .before .before .before .before .before .before .before .before .before .before .args in byte-section (a .id) (now (a .bytes)) Elements (c .before .before .before .before .match .keys4) (now (a .out)) (a .s) _ _ _ _ (c .before .before .before .before .before .before .before .append-word .ensures) (c .before .before .walk-bytes4 .ensures .reads (omega arith))
 
 returns-5 : tie.Need-returns-5
 returns-5 c = let a = c .before .before .before .before .before .before .before .before .before .before .before .args in byte-section (a .id) (now (a .bytes)) Data (c .before .before .before .before .match .keys5) (now (a .out)) (a .s) _ _ _ _ (c .before .before .before .before .before .before .before .append-word .ensures) (c .before .before .walk-bytes5 .ensures)

@@ -18,13 +18,13 @@ returns-2 : tie.Need-returns-2
 returns-2 c = let a = c .before .before .before .before .before .before .before .before .before .before .args in word-section (now (a .words)) (omega (arith, c .before .before .before .before .before .before .if1 .left)) Types (c .before .before .before .before .match .keys1) (now (a .text)) (now (a .out)) (a .s) _ _ (c .before .before .walk-words .ensures)
 
 returns-3 : tie.Need-returns-3
-returns-3 c = let a = c .before .before .before .before .before .before .before .before .before .before .args in word-section (now (a .words)) (omega (arith, c .before .before .before .before .before .before .if1 .left)) Imports (c .before .before .before .before .match .keys2) (now (a .text)) (now (a .out)) (a .s) _ _ (c .before .before .walk-words2 .ensures)
+returns-3 c = let a = c .before .before .before .before .before .before .before .before .before .before .args in word-section (now (a .words)) (omega (arith, c .before .before .before .before .before .before .if1 .left)) Imports (c .before .before .before .before .match .keys2) (now (a .text)) (now (a .out)) (a .s) _ _ (c .before .before .walk-words2 .ensures .writes)
 
 returns-4 : tie.Need-returns-4
-returns-4 c = let a = c .before .before .before .before .before .before .before .before .before .before .args in word-section (now (a .words)) (omega (arith, c .before .before .before .before .before .before .if1 .left)) Tables (c .before .before .before .before .match .keys3) (now (a .text)) (now (a .out)) (a .s) _ _ (c .before .before .walk-words3 .ensures)
+returns-4 c = let a = c .before .before .before .before .before .before .before .before .before .before .args in word-section (now (a .words)) (omega (arith, c .before .before .before .before .before .before .if1 .left)) Tables (c .before .before .before .before .match .keys3) (now (a .text)) (now (a .out)) (a .s) _ _ (c .before .before .walk-words3 .ensures .writes)
 
 returns-5 : tie.Need-returns-5
-returns-5 c = let a = c .before .before .before .before .before .before .before .before .before .before .args in word-section (now (a .words)) (omega (arith, c .before .before .before .before .before .before .if1 .left)) Elements (c .before .before .before .before .match .keys4) (now (a .text)) (now (a .out)) (a .s) _ _ (c .before .before .walk-words4 .ensures)
+returns-5 c = let a = c .before .before .before .before .before .before .before .before .before .before .args in word-section (now (a .words)) (omega (arith, c .before .before .before .before .before .before .if1 .left)) Elements (c .before .before .before .before .match .keys4) (now (a .text)) (now (a .out)) (a .s) _ _ (c .before .before .walk-words4 .ensures .writes)
 
 returns-6 : tie.Need-returns-6
 returns-6 c = let a = c .before .before .before .before .before .before .before .before .before .before .args in word-section (now (a .words)) (omega (arith, c .before .before .before .before .before .before .if1 .left)) Data (c .before .before .before .before .match .keys5) (now (a .text)) (now (a .out)) (a .s) _ _ (c .before .before .walk-words5 .ensures)

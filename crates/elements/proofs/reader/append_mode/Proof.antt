@@ -1,19 +1,9 @@
 -- `elements::reader::append_mode` meets its contract. Assumes nothing.
+use Rattle.elements.specs.declared.Mode.the-variants.{Active, Passive, ActiveTable, Declared}
+use Rattle.elements.proofs.Places.{mode-added}
 use borrow.Author.Needs.{needs}
 use Rattle.elements.proofs.reader.append_mode.Statement.{statement}
 use Rattle.elements.proofs.reader.append_mode.Tie as tie
-
-returns : tie.Need-returns
-returns c = rw (c .before .before .before .before .enum-told .given .1) (c .before .before .append-two .ensures)
-
-returns-2 : tie.Need-returns-2
-returns-2 c = rw (c .before .before .before .before .enum-told2 .given .1) (c .before .before .append-two2 .ensures)
-
-returns-3 : tie.Need-returns-3
-returns-3 c = rw (c .before .before .before .before .enum-told3 .given .1) (c .before .before .append-two3 .ensures)
-
-returns-4 : tie.Need-returns-4
-returns-4 c = rw (c .before .before .before .before .enum-told4 .given .1) (c .before .before .append-two4 .ensures)
 
 pub append-mode-spec : {M : Type 1} → statement M
 append-mode-spec =
@@ -28,10 +18,10 @@ append-mode-spec =
     (λ c. search needs)
     (λ c. search needs)
     (λ c. search needs)
-    returns
+    (λ c. search (mode-added Active))
     (λ c. search needs)
-    returns-2
+    (λ c. search (mode-added Passive))
     (λ c. search needs)
-    returns-3
+    (λ c. search (mode-added ActiveTable))
     (λ c. search needs)
-    returns-4)
+    (λ c. search (mode-added Declared)))

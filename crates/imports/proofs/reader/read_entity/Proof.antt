@@ -1,47 +1,17 @@
 -- `imports::reader::read_entity` meets its contract: each sort by its own walk. Assumes nothing.
-use denote.Ref.{now}
-use native.Mathlib.Omega.{arith}
-use Rattle.imports.specs.Entity.{function, ofTable, ofMemory, ofGlobal, ofTag, exact, typeWords, typeBytes}
-use Rattle.imports.proofs.Entities.{entity-empty, entity-none, entity-known}
+use Rattle.imports.specs.Entity.{function, ofTable, ofMemory, ofGlobal, ofTag, exact}
+use Rattle.imports.proofs.Entities.{byte-fits, no-entity, sort-reads, no-sort-reads}
 use borrow.Author.Needs.{needs}
 use Rattle.imports.proofs.reader.read_entity.Statement.{statement}
 use Rattle.imports.proofs.reader.read_entity.Tie as tie
-
-returns : tie.Need-returns
-returns c = let a = c .before .before .before .args in λ h. entity-empty typeBytes typeWords (now (a .b)) (a .at) (now (a .out)) (a .s) _ (c .if1 .taken)
-
-returns-2 : tie.Need-returns-2
-returns-2 c = let a = c .before .before .before .before .before .before .before .before .before .before .before .before .before .args in λ h. entity-known typeBytes typeWords (now (a .b)) (a .at) (now (a .out)) (a .s) _ (c .before .before .before .before .before .before .before .before .before .before .if1 .left) function (c .before .before .before .before .match .keys1) _ _ _ (c .before .before .before .before .before .before .before .append-word .ensures) (c .before .before .read-index .ensures)
-
-returns-3 : tie.Need-returns-3
-returns-3 c = let a = c .before .before .before .before .before .before .before .before .before .before .before .before .before .args in λ h. entity-known typeBytes typeWords (now (a .b)) (a .at) (now (a .out)) (a .s) _ (c .before .before .before .before .before .before .before .before .before .before .if1 .left) ofTable (c .before .before .before .before .match .keys2) _ _ _ (c .before .before .before .before .before .before .before .append-word .ensures) (c .before .before .read-table-type .ensures)
-
-returns-4 : tie.Need-returns-4
-returns-4 c = let a = c .before .before .before .before .before .before .before .before .before .before .before .before .before .args in λ h. entity-known typeBytes typeWords (now (a .b)) (a .at) (now (a .out)) (a .s) _ (c .before .before .before .before .before .before .before .before .before .before .if1 .left) ofMemory (c .before .before .before .before .match .keys3) _ _ _ (c .before .before .before .before .before .before .before .append-word .ensures) (c .before .before .read-memory-type .ensures)
-
-returns-5 : tie.Need-returns-5
-returns-5 c = let a = c .before .before .before .before .before .before .before .before .before .before .before .before .before .args in λ h. entity-known typeBytes typeWords (now (a .b)) (a .at) (now (a .out)) (a .s) _ (c .before .before .before .before .before .before .before .before .before .before .if1 .left) ofGlobal (c .before .before .before .before .match .keys4) _ _ _ (c .before .before .before .before .before .before .before .append-word .ensures) (c .before .before .read-global-type .ensures)
-
-returns-6 : tie.Need-returns-6
-returns-6 c = let a = c .before .before .before .before .before .before .before .before .before .before .before .before .before .args in λ h. entity-known typeBytes typeWords (now (a .b)) (a .at) (now (a .out)) (a .s) _ (c .before .before .before .before .before .before .before .before .before .before .if1 .left) ofTag (c .before .before .before .before .match .keys5) _ _ _ (c .before .before .before .before .before .before .before .append-word .ensures) (c .before .before .read-tag-type .ensures)
-
-returns-7 : tie.Need-returns-7
-returns-7 c = let a = c .before .before .before .before .before .before .before .before .before .before .before .before .before .args in λ h. entity-known typeBytes typeWords (now (a .b)) (a .at) (now (a .out)) (a .s) _ (c .before .before .before .before .before .before .before .before .before .before .if1 .left) exact (c .before .before .before .before .match .keys6) _ _ _ (c .before .before .before .before .before .before .before .append-word .ensures) (c .before .before .read-index2 .ensures)
-
-returns-8 : tie.Need-returns-8
-returns-8 c =
-    let a = c .before .before .before .before .before .before .before .before .before .args in
-    let r = c .match .rest in
-    λ h. entity-none typeBytes typeWords (now (a .b)) (a .at) (now (a .out)) (a .s) _ (c .before .before .before .before .before .before .if1 .left)
-    (elim [ function ↦ r .0 .0 .0 .0 .0 .1 | ofTable ↦ r .0 .0 .0 .0 .1 | ofMemory ↦ r .0 .0 .0 .1 | ofGlobal ↦ r .0 .0 .1 | ofTag ↦ r .0 .1 | exact ↦ r .1 ])
 
 pub read-entity-spec : {M : Type 1} → statement M
 read-entity-spec =
     tie.close
     (tie.spec
-    returns
+    (λ c. search no-entity)
     (λ c. search needs)
-    (λ c. omega (arith, c .shared-slice-known2 .given (c .before .before .before .before .args .at)))
+    (λ c. search byte-fits)
     (λ c κs. search needs)
     (λ c. search needs)
     (λ c κs. search needs)
@@ -56,16 +26,16 @@ read-entity-spec =
     (λ c. search needs)
     (λ c. search needs)
     (λ c. search needs)
-    returns-2
+    (λ c. search (sort-reads function))
     (λ c. search needs)
-    returns-3
+    (λ c. search (sort-reads ofTable))
     (λ c. search needs)
-    returns-4
+    (λ c. search (sort-reads ofMemory))
     (λ c. search needs)
-    returns-5
+    (λ c. search (sort-reads ofGlobal))
     (λ c. search needs)
-    returns-6
+    (λ c. search (sort-reads ofTag))
     (λ c. search needs)
-    returns-7
+    (λ c. search (sort-reads exact))
     (λ c. search needs)
-    returns-8)
+    (λ c. search no-sort-reads))

@@ -1,24 +1,9 @@
 -- `imports::reader::read_member` meets its contract: each kind of member by its own walk. Assumes nothing.
-use denote.Ref.{now}
-use mathlib.Core.Path.{sym, subst}
-use Rattle.parts.specs.Reading.{Reading}
-use Rattle.imports.specs.Forms.{member}
-use Rattle.imports.specs.declared.Member.{Member}
+use Rattle.imports.proofs.Members.{as-member}
+use Rattle.imports.specs.declared.Member.the-variants.{Import, Name}
 use borrow.Author.Needs.{needs}
 use Rattle.imports.proofs.reader.read_member.Statement.{statement}
 use Rattle.imports.proofs.reader.read_member.Tie as tie
-
-returns : tie.Need-returns
-returns c =
-    let a = c .before .before .before .before .before .before .before .before .args in
-    let x = c .before .before .read-import in
-    subst (λ (k : Member). Reading (member k) (now (a .b)) (a .at) (now (a .out)) (a .s) (x .last .1 .1 .0) (x .result)) (sym (c .before .before .before .before .enum-told .given .1)) (x .ensures)
-
-returns-2 : tie.Need-returns-2
-returns-2 c =
-    let a = c .before .before .before .before .before .before .before .before .args in
-    let x = c .before .before .read-name in
-    subst (λ (k : Member). Reading (member k) (now (a .b)) (a .at) (now (a .out)) (a .s) (x .last .1 .1 .0) (x .result)) (sym (c .before .before .before .before .enum-told2 .given .1)) (x .ensures)
 
 pub read-member-spec : {M : Type 1} → statement M
 read-member-spec =
@@ -29,6 +14,6 @@ read-member-spec =
     (λ c. search needs)
     (λ c κs. search needs)
     (λ c. search needs)
-    returns
+    (λ c. search (as-member Import))
     (λ c. search needs)
-    returns-2)
+    (λ c. search (as-member Name)))

@@ -1,10 +1,8 @@
 -- `imports::reader::read_members` meets its contract: the loop has read some members, and the others are left. Assumes nothing.
-use denote.Ref.{now}
-use mathlib.Core.Path.{_∙_}
-use Rattle.format.specs.Loop.{going-none, going-more}
-use Rattle.format.specs.Walk.{no-walks, got-walks}
-use Rattle.parts.specs.Reading.{recordAt, ReadingOn, members-no, members-got}
+use Rattle.format.specs.Loop.{loop-starts, loop-done}
+use Rattle.parts.specs.Reading.{ReadingOn}
 use Rattle.imports.specs.Forms.{member}
+use Rattle.imports.proofs.Members.{reading-stops, reading-goes-on}
 use borrow.Author.Needs.{needs}
 use Rattle.imports.proofs.reader.read_members.Statement.{statement}
 use Rattle.imports.proofs.reader.read_members.Tie as tie
@@ -15,42 +13,20 @@ Inv-loop m n b at out₀ t₀ p₀ left₀ out t p left = ReadingOn (member m) b
 abbrev μ-loop : tie.MeasureT-loop
 μ-loop m n b at out₀ t₀ p₀ left₀ out t p left = left
 
-loop-holds : tie.Need-loop-holds Inv-loop μ-loop
-loop-holds c = let a = c .before .before .args in going-none (member (a .m) .bytes) (recordAt (member (a .m))) (λ x. 9) (now (a .b)) (a .at) (a .n) (now (a .out)) (a .s) (c .before .before .pre .0)
-
-returns : tie.Need-returns Inv-loop μ-loop
-returns c =
-    let a = c .before .before .before .before .before .before .before .before .before .before .args in
-    let S = member (a .m) in
-    let l = c .before .before .before .before .before .before .before .loop in
-    let x = c .before .before .before .before .read-member in
-    members-no S (l .inv) _ (c .before .before .before .before .before .before .loop-test .taken) (no-walks (S .bytes) (recordAt S (l .p)) (λ y. 9) (now (a .b)) (l .p) _ _ _ (x .result) (x .ensures (l .inv .place)) (c .enum-told .given .1))
-
-loop-again : tie.Need-loop-again Inv-loop μ-loop
-loop-again c =
-    let a = c .before .before .before .before .before .before .before .before .before .before .before .args in
-    let S = member (a .m) in
-    let l = c .before .before .before .before .before .before .before .before .loop in
-    let x = c .before .before .before .before .before .read-member in
-    going-more (S .bytes) (recordAt S) (λ y. 9) (l .inv) (c .before .before .before .before .before .before .before .loop-test .taken) (got-walks (S .bytes) (recordAt S (l .p)) (λ y. 9) (now (a .b)) (l .p) _ _ _ (x .result) _ _ (x .ensures (l .inv .place)) (c .before .q .given .1)) (x .kept .1 .1 .1 .0)
-
-returns-2 : tie.Need-returns-2 Inv-loop μ-loop
-returns-2 c = let a = c .before .before .before .before .args in members-got (member (a .m)) (c .before .loop .inv) (c .loop-test .left)
-
 pub read-members-spec : {M : Type 1} → statement M
 read-members-spec =
     tie.close
     (tie.spec
     Inv-loop
     μ-loop
-    loop-holds
-    (λ c κs. c .before .before .before .before .before .pre .1)
+    (λ c. search loop-starts)
+    (λ c κs. search needs)
     (λ c. search needs)
     (λ c. search needs)
-    (λ c. c .before .before .before .before .read-member .kept .1 .1 .1 .0 ∙ c .before .before .before .before .before .before .before .loop .inv .kept)
-    returns
+    (λ c. cc)
+    (λ c. search reading-stops)
     (λ c. search needs)
     (λ c. search needs)
-    loop-again
-    (λ c. c .before .loop .inv .kept)
-    returns-2)
+    (λ c. search reading-goes-on)
+    (λ c. search needs)
+    (λ c. search loop-done))

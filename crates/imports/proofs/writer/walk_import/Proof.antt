@@ -1,23 +1,10 @@
 -- `imports::writer::walk_import` meets its contract: a name, and then an entity. Assumes nothing.
-use denote.Ref.{now}
-use Rattle.format.specs.Sequence.{joins-no, joins-got}
 use Rattle.parts.specs.Text.{name}
-use Rattle.parts.specs.Writing.{both-joins}
-use Rattle.imports.specs.Entity.{entity}
+use Rattle.parts.specs.Writing.{part-missing, part-follows, textless-writes}
+use Rattle.imports.specs.Entity.{entityWords, entityBytes, entity-agree, entity}
 use borrow.Author.Needs.{needs}
 use Rattle.imports.proofs.writer.walk_import.Statement.{statement}
 use Rattle.imports.proofs.writer.walk_import.Tie as tie
-
-returns : tie.Need-returns
-returns c =
-    let a = c .before .before .before .before .before .before .before .before .before .args in
-    joins-no _ _ _ _ _ _ _ _ _ (both-joins name entity (now (a .text))) (now (a .words)) (a .at) (now (a .out)) (a .s) _ _ (c .before .before .before .before .walk-name .ensures) _ (c .enum-told .given .1)
-
-returns-2 : tie.Need-returns-2
-returns-2 c =
-    let a = c .before .before .before .before .before .before .before .before .before .before .before .before .before .before .args in
-    let v = c .before .before .before .before .before .p .given .0 in
-    joins-got _ _ _ _ _ _ _ _ _ (both-joins name entity (now (a .text))) (now (a .words)) (a .at) (now (a .out)) (a .s) _ _ (c .before .before .before .before .before .before .before .before .before .walk-name .ensures) _ (v .0) (v .1 .0) _ (c .before .before .before .before .before .p .given .1) (c .before .before .walk-entity .ensures)
 
 pub walk-import-spec : {M : Type 1} → statement M
 walk-import-spec =
@@ -27,7 +14,7 @@ walk-import-spec =
     (λ c. search needs)
     (λ c. search needs)
     (λ c. search needs)
-    returns
+    (λ c. search (part-missing name entity))
     (λ c κs. search needs)
     (λ c. search needs)
-    returns-2)
+    (λ c. search (part-follows name entity, textless-writes entityWords entityBytes entity-agree)))

@@ -1,34 +1,18 @@
 -- `lists::writer::walk_index` meets its contract. Assumes nothing.
-use denote.Ref.{now}
-use Prim.Native.Nat.{_+_}
-use native.Mathlib.Omega.{arith}
-use lib.ListN.{getD}
-use Rattle.format.specs.Read.{drop-end}
-use Rattle.format.specs.Walk.{walks-no, walks-got}
-use Rattle.leb128.specs.Formats.{u32}
-use Rattle.texts.specs.Words.{word, word-at}
+use Rattle.format.specs.Steps.{nothing-left}
+use Rattle.texts.specs.Steps.{word-there}
 use borrow.Author.Needs.{needs}
 use Rattle.lists.proofs.writer.walk_index.Statement.{statement}
 use Rattle.lists.proofs.writer.walk_index.Tie as tie
-
-returns : tie.Need-returns
-returns c = let a = c .before .before .before .args in walks-no word (u32 .print) (λ x. 9) (now (a .words)) (a .at) (now (a .out)) (a .s) _ (rw (drop-end (now (a .words)) (a .at) (c .if1 .taken)))
-
-returns-2 : tie.Need-returns-2
-returns-2 c =
-    let a = c .before .before .before .before .before .before .before .before .args in
-    let h = c .before .before .before .before .before .if1 .left in
-    walks-got word (u32 .print) (λ x. 9) (now (a .words)) (a .at) (now (a .out)) (a .s) _ (getD (now (a .words)) (a .at) 0) (a .at + 1) _
-    (word-at (now (a .words)) (a .at) h (omega (arith, c .before .before .before .before .before .before .before .shared-slice-known .given (a .at)))) (omega arith) (c .before .before .append-u32 .ensures)
 
 pub walk-index-spec : {M : Type 1} → statement M
 walk-index-spec =
     tie.close
     (tie.spec
-    returns
+    (λ c. search nothing-left)
     (λ c. search needs)
     (λ c. search needs)
     (λ c. search needs)
     (λ c κs. search needs)
     (λ c. search needs)
-    returns-2)
+    (λ c. search word-there))

@@ -1,51 +1,25 @@
 -- `lists::writer::walk_list` meets its contract: the count, and then so many members. Assumes nothing.
-use denote.Ref.{now}
-use Prim.Native.Nat.{_+_}
-use native.Mathlib.Omega.{arith}
-use lib.ListN.{getD, length-drop}
-use Rattle.format.specs.Read.{drop-end}
-use Rattle.format.specs.Loop.{counted-no, counted-short, counted-got}
-use Rattle.leb128.specs.Leb.{uleb}
-use Rattle.texts.specs.Words.{word, word-at}
-use Rattle.lists.specs.Member.{memberWords, memberBytes, words-long}
+use Rattle.format.specs.Steps.{nothing-left}
+use Rattle.texts.specs.Steps.{word-fits}
+use Rattle.lists.proofs.Members.{large-count-word, then-members-words}
 use borrow.Author.Needs.{needs}
 use Rattle.lists.proofs.writer.walk_list.Statement.{statement}
 use Rattle.lists.proofs.writer.walk_list.Tie as tie
-
-returns : tie.Need-returns
-returns c =
-    let a = c .before .before .before .args in
-    counted-no (memberWords (a .m)) (memberBytes (a .m) .print) word uleb (now (a .words)) (a .at) (now (a .out)) (a .s) _ (rw (drop-end (now (a .words)) (a .at) (c .if1 .taken)))
-
-returns-2 : tie.Need-returns-2
-returns-2 c =
-    let a = c .before .before .before .before .before .args in
-    let w = now (a .words) in
-    counted-short (memberWords (a .m)) (memberBytes (a .m) .print) word uleb w (a .at) (now (a .out)) (a .s) _ (getD w (a .at) 0) (a .at + 1)
-    (word-at w (a .at) (c .before .before .if1 .left) (omega (arith, c .before .before .before .before .shared-slice-known .given (a .at)))) (words-long (a .m))
-    (omega (arith, c .if2 .taken, c .before .before .if1 .left, length-drop (a .at + 1) w))
-
-returns-3 : tie.Need-returns-3
-returns-3 c =
-    let a = c .before .before .before .before .before .before .before .before .before .before .before .before .before .args in
-    let w = now (a .words) in
-    counted-got (memberWords (a .m)) (memberBytes (a .m) .print) word uleb w (a .at) (now (a .out)) (a .s) _ (getD w (a .at) 0) (a .at + 1)
-    (word-at w (a .at) (c .before .before .before .before .before .before .before .before .before .before .if1 .left) (omega (arith, c .before .before .before .before .before .before .before .before .before .before .before .before .shared-slice-known .given (a .at)))) _ _ _ (c .before .before .before .before .before .before .append-u32 .ensures) (c .before .before .walk-members .ensures)
 
 pub walk-list-spec : {M : Type 1} → statement M
 walk-list-spec =
     tie.close
     (tie.spec
-    returns
+    (λ c. search nothing-left)
     (λ c. search needs)
     (λ c. search needs)
     (λ c. search needs)
     (λ c. search needs)
-    (λ c. omega (arith, c .before .before .before .shared-slice-known .given (c .before .before .before .before .args .at)))
-    returns-2
+    (λ c. search word-fits)
+    (λ c. search large-count-word)
     (λ c κs. search needs)
     (λ c. search needs)
     (λ c. search needs)
     (λ c κs. search needs)
     (λ c. search needs)
-    returns-3)
+    (λ c. search then-members-words))

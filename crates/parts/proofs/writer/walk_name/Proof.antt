@@ -1,26 +1,14 @@
--- `parts::writer::walk_name` meets its contract: a span, and what is written of a name.
+-- `parts::writer::walk_name` meets its contract: a span, and what is written of it. Assumes nothing.
 use denote.Ref.{now}
 use mathlib.Core.Path.{sym, _∙_}
 use native.Mathlib.Omega.{arith}
-use Rattle.names.specs.Name.{isName}
 use Rattle.texts.specs.Text.{named}
 use Rattle.texts.specs.Place.{sizedAt}
 use Rattle.parts.specs.Text.{nameBytes, nameHolds, span-is}
-use Rattle.parts.specs.Writing.{text-no, text-got}
+use Rattle.parts.specs.Writing.{span-missing, text-writes}
 use borrow.Author.Needs.{needs}
 use Rattle.parts.proofs.writer.walk_name.Statement.{statement}
 use Rattle.parts.proofs.writer.walk_name.Tie as tie
-
-returns : tie.Need-returns
-returns c =
-    let a = c .before .before .before .before .before .before .args in
-    text-no named nameBytes sizedAt nameHolds (now (a .text)) (now (a .words)) (a .at) (now (a .out)) (a .s) _ (sym (c .before .before .find-span .ensures) ∙ c .enum-told .given .1)
-
-returns-2 : tie.Need-returns-2
-returns-2 c =
-    let k = c .before .before .before .before .before in
-    let a = c .before .before .before .before .before .before .before .before .before .before .before .args in
-    text-got named nameBytes sizedAt nameHolds (now (a .text)) (now (a .words)) (a .at) (now (a .out)) (a .s) _ (k .v .given .0 .0) _ (sym (k .before .before .find-span .ensures) ∙ k .v .given .1) (c .before .before .append-name .ensures)
 
 add-t8 : tie.Need-add-t8
 add-t8 c =
@@ -35,8 +23,8 @@ walk-name-spec =
     (λ c κs. search needs)
     (λ c. search needs)
     (λ c. search needs)
-    returns
+    (λ c. search (span-missing named nameBytes sizedAt nameHolds))
     add-t8
     (λ c κs. search needs)
     (λ c. search needs)
-    returns-2)
+    (λ c. search (text-writes named nameBytes sizedAt nameHolds)))

@@ -1,39 +1,9 @@
 -- `subtypes::reader::read_sub` meets its contract: supertypes, shared or not, and the rest. Assumes nothing.
-use denote.Ref.{now}
-use mathlib.Core.Path.{refl}
-use Rattle.format.specs.Basic.{flag}
-use Rattle.format.specs.Combine.{pair}
-use Rattle.format.specs.Leads.{mark, led-joins, led-made}
-use Rattle.format.specs.Sequence.{joins-no, joins-got}
-use Rattle.prefixes.specs.Prefix.{supersWords, supersLead}
-use Rattle.subtypes.specs.SubType.{ofParts, sharedBytes, shared-no-prefix, describedWords, describedBytes, described-no-65, subWords, subBytes}
+use Rattle.format.specs.Steps.{first-missing, second-follows}
+use Rattle.subtypes.proofs.Parts.{supers-read, shared-read}
 use borrow.Author.Needs.{needs}
 use Rattle.subtypes.proofs.reader.read_sub.Statement.{statement}
 use Rattle.subtypes.proofs.reader.read_sub.Tie as tie
-
-returns : tie.Need-returns
-returns c =
-    let a = c .before .before .before .before .before .before .before .before .args in
-    joins-no _ _ _ _ _ _ _ _ _ (led-made supersLead (supersWords .print) sharedBytes (pair flag describedWords .print) shared-no-prefix subBytes (subWords .print) ofParts (λ l. refl) (λ x y. refl)) (now (a .b)) (a .at) (now (a .out)) (a .s) _ _
-    (c .before .before .before .before .read-supers .ensures) _ (c .enum-told .given .1)
-
-returns-2 : tie.Need-returns-2
-returns-2 c =
-    let a = c .before .before .before .before .before .before .before .before .before .before .before .before .before .before .before .args in
-    let v = c .before .before .before .before .before .before .before .p .given in
-    joins-got _ _ _ _ _ _ _ _ _ (led-made supersLead (supersWords .print) sharedBytes (pair flag describedWords .print) shared-no-prefix subBytes (subWords .print) ofParts (λ l. refl) (λ x y. refl)) (now (a .b)) (a .at) (now (a .out)) (a .s) _ _
-    (c .before .before .before .before .before .before .before .before .before .before .before .read-supers .ensures) _ (v .0 .0) (v .0 .1 .0) _ (v .1)
-    (joins-no _ _ _ _ _ _ _ _ _ (led-joins (mark 0x65) (flag .print) describedBytes (describedWords .print) described-no-65) (now (a .b)) (v .0 .0) _ (v .0 .1 .0) _ _ (c .before .before .before .before .read-shared .ensures) _ (c .enum-told2 .given .1))
-
-returns-3 : tie.Need-returns-3
-returns-3 c =
-    let a = c .before .before .before .before .before .before .before .before .before .before .before .before .before .before .before .before .before .before .before .before .args in
-    let v = c .before .before .before .before .before .before .before .before .before .before .before .before .p .given in
-    let q = c .before .before .before .before .before .q .given in
-    joins-got _ _ _ _ _ _ _ _ _ (led-made supersLead (supersWords .print) sharedBytes (pair flag describedWords .print) shared-no-prefix subBytes (subWords .print) ofParts (λ l. refl) (λ x y. refl)) (now (a .b)) (a .at) (now (a .out)) (a .s) _ _
-    (c .before .before .before .before .before .before .before .before .before .before .before .before .before .before .before .before .read-supers .ensures) _ (v .0 .0) (v .0 .1 .0) _ (v .1)
-    (joins-got _ _ _ _ _ _ _ _ _ (led-joins (mark 0x65) (flag .print) describedBytes (describedWords .print) described-no-65) (now (a .b)) (v .0 .0) _ (v .0 .1 .0) _ _ (c .before .before .before .before .before .before .before .before .before .read-shared .ensures) _ (q .0 .0) (q .0 .1 .0) _ (q .1)
-    (c .before .before .read-described .ensures))
 
 pub read-sub-spec : {M : Type 1} → statement M
 read-sub-spec =
@@ -43,12 +13,12 @@ read-sub-spec =
     (λ c. search needs)
     (λ c. search needs)
     (λ c. search needs)
-    returns
+    (λ c. search (first-missing supers-read))
     (λ c κs. search needs)
     (λ c. search needs)
     (λ c. search needs)
     (λ c. search needs)
-    returns-2
+    (λ c. search (second-follows supers-read, first-missing shared-read))
     (λ c κs. search needs)
     (λ c. search needs)
-    returns-3)
+    (λ c. search (second-follows supers-read, second-follows shared-read)))

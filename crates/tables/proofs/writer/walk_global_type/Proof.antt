@@ -1,23 +1,9 @@
 -- `tables::writer::walk_global_type` meets its contract: a value type, and whether it is mutable. Assumes nothing.
-use denote.Ref.{now}
-use Rattle.format.specs.Sequence.{joins-no, joins-got}
-use Rattle.types.specs.Vals.{valWords, valBytes}
-use Rattle.tables.specs.GlobalType.{global-joins}
+use Rattle.format.specs.Steps.{first-missing, second-follows}
+use Rattle.tables.proofs.Tables.{global-walk}
 use borrow.Author.Needs.{needs}
 use Rattle.tables.proofs.writer.walk_global_type.Statement.{statement}
 use Rattle.tables.proofs.writer.walk_global_type.Tie as tie
-
-returns : tie.Need-returns
-returns c =
-    let a = c .before .before .before .before .before .before .before .before .args in
-    joins-no _ _ _ _ _ _ _ _ _ (global-joins valWords valBytes) (now (a .words)) (a .at) (now (a .out)) (a .s) _ _ (c .before .before .before .before .walk-val .ensures) _ (c .enum-told .given .1)
-
-returns-2 : tie.Need-returns-2
-returns-2 c =
-    let a = c .before .before .before .before .before .before .before .before .before .before .before .before .before .args in
-    let v = c .before .before .before .before .before .p .given .0 in
-    joins-got _ _ _ _ _ _ _ _ _ (global-joins valWords valBytes) (now (a .words)) (a .at) (now (a .out)) (a .s) _ _ (c .before .before .before .before .before .before .before .before .before .walk-val .ensures) _ (v .0) (v .1 .0) _ (c .before .before .before .before .before .p .given .1)
-    (c .before .before .walk-mutable .ensures)
 
 pub walk-global-type-spec : {M : Type 1} → statement M
 walk-global-type-spec =
@@ -27,7 +13,7 @@ walk-global-type-spec =
     (λ c. search needs)
     (λ c. search needs)
     (λ c. search needs)
-    returns
+    (λ c. search (first-missing global-walk))
     (λ c κs. search needs)
     (λ c. search needs)
-    returns-2)
+    (λ c. search (second-follows global-walk)))
