@@ -7,7 +7,7 @@ use Rattle.format.specs.Parsed.{fail}
 use Rattle.format.specs.Count.{silent}
 use Rattle.format.specs.Read.{none-read}
 use Rattle.format.specs.Sequence.{Joins, pair-joins}
-use Rattle.format.specs.Steps.{Opens, dep-opens}
+use Rattle.format.specs.Dispatch.{Opens, dep-opens}
 use Rattle.lists.specs.Member.{listWords, listBytes}
 use Rattle.lists.specs.declared.Member.the-variants.{Val}
 use Rattle.composites.specs.Composite.{Kind, func, array, struct, cont, kindWord, kindWords, kindByte, kindBytes, bodyWords, bodyBytes, innerWords, innerBytes}

@@ -1,3 +1,1 @@
--- What the proofs of `data` share.
-pub mod Words
-pub mod Bytes
+pub mod Segments

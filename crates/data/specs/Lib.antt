@@ -1,4 +1,3 @@
--- Data segments: words and bytes over one abstract syntax, the record of an item, and reading after adding.
+-- Data segments: words and bytes over one abstract syntax, and what the data section is as a section.
 pub mod Segment
-pub mod Located
-pub mod Reading
+pub mod Examples

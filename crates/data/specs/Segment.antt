@@ -1,129 +1,120 @@
--- Data segments (document 01, Records and Items to bytes; Core Specification 3.0, Binary Format, Modules, Data Section): words and bytes of one abstract
--- syntax over any text. A record is a segment over spans, an item one over bytes. Assumes nothing.
-use mathlib.Core.Path.{_≡_, refl, sym, ap}
+-- Data segments (document 01, Records and Items to bytes; Core Specification 3.0, Binary Format, Modules, Data Section), over any text, made of parts: passive,
+-- or active in a memory. Assumes nothing.
+use mathlib.Core.Path.{_≡_, refl, sym, ap, _∙_}
 use mathlib.Core.Logic.{_⊎_, inl, inr}
-use mathlib.Core.Bool.{Bool, true, false, not, true≢false}
-use mathlib.Core.Option.{some}
-use mathlib.Core.List.{List, [], _∷_}
+use mathlib.Core.Bool.{Bool, true, false, cond}
+use mathlib.Core.Option.{Option, none, some}
+use mathlib.Core.List.{List, [], _∷_, _++_}
 use Prim.Native.Nat.{ℕ, _<_, _^_}
-use borrow.Author.Tests.{eq-eqb}
-use Rattle.format.specs.Parsed.{Parsed, fail, got}
+use native.Mathlib.Omega.{arith}
+use lib.Dec.{lit<}
+use borrow.Author.Tests.{eqb-true}
 use Rattle.format.specs.Format.{Format}
-use Rattle.format.specs.Basic.{tag, empty, via}
-use Rattle.format.specs.Combine.{pair, iso, guard}
-use Rattle.format.specs.Sized.{sized}
-use Rattle.format.specs.Alternatives.{Heads, is, alt, Apart, union, heads-tag, heads-pair, heads-union}
+use Rattle.format.specs.Basic.{tag, empty, lit, via, find, table}
+use Rattle.format.specs.Agree.{Agree}
+use Rattle.format.specs.Alternatives.{Heads, is, alt, altOk, heads-tag, heads-alt, heads-pair}
+use Rattle.format.specs.Told.{one}
 use Rattle.leb128.specs.Formats.{u32}
-use Rattle.exprs.specs.Laws.{expr}
-use Rattle.texts.specs.Text.{Kind, constant, plain, sliceOf, lowestOf}
-use Rattle.texts.specs.Words.{word, span}
+use Rattle.texts.specs.Section.{Section, textless, tagged}
+use Rattle.texts.specs.Words.{word}
 use Rattle.texts.specs.declared.Span.{Span}
-use Rattle.data.specs.declared.DataRecord.{DataRecord}
-use Rattle.data.specs.declared.DataRecord.the-variants.{Passive, Active, No}
+use Rattle.parts.specs.Text.{expression, content}
+use Rattle.parts.specs.Both.{both, behind}
+use Rattle.parts.specs.Chosen.{chosen}
 
--- passive: data; active: a memory, the offset and data
-pub data Segment (S : Type 0) : Type 0 where
-  passive : S → Segment S
-  active : ℕ → S → S → Segment S
+-- ---- a memory: in bytes, 0 is 00, another one 02 and its index
 
-abbrev pub mapped : {S T : Type 0} → (S → T) → Segment S → Segment T
-mapped f (passive d) = passive (f d)
-mapped f (active m o d) = active m (f o) (f d)
+abbrev pub memoryTo : ℕ → Unit {0} ⊎ ℕ
+memoryTo m = cond (is 0 m) (inl tt) (inr m)
 
-abbrev pub textsOf : {S : Type 0} → Segment S → List (Kind × S)
-textsOf (passive d) = (plain, d) ∷ []
-textsOf (active m o d) = (constant, o) ∷ (plain, d) ∷ []
+abbrev pub memoryOf : Unit {0} ⊎ ℕ → Option ℕ
+memoryOf (inl u) = some 0
+memoryOf (inr m) = cond (is 0 m) none (some m)
 
--- ---- as one of two
+abbrev pub zeroOrOther : Format (Unit {0} ⊎ ℕ)
+zeroOrOther = alt (is 0) (lit 0) (tag 2 u32) (heads-tag 0 empty (is 0) true refl) (heads-tag 2 u32 (is 0) false refl)
 
-abbrev pub sideOf : {S : Type 0} → Segment S → S ⊎ (ℕ × (S × S))
-sideOf (passive d) = inl d
-sideOf (active m o d) = inr (m, (o, d))
+pub memory-fits : (m : ℕ) → m < 2 ^ 32 → zeroOrOther .Ok (memoryTo m)
+memory-fits m h = go (is 0 m)
+  where
+    go : (c : Bool) → altOk (is 0) (lit 0) (tag 2 u32) (cond c (inl tt) (inr m))
+    go true = tt
+    go false = h
 
-abbrev pub activeOf : {S : Type 0} → ℕ × (S × S) → Segment S
-activeOf p = active (p .0) (p .1 .0) (p .1 .1)
+pub memory-of-to : (m : ℕ) → m < 2 ^ 32 → memoryOf (memoryTo m) ≡ some m
+memory-of-to m h = go (is 0 m) refl
+  where
+    go : (c : Bool) → is 0 m ≡ c → memoryOf (cond c (inl tt) (inr m)) ≡ some m
+    go true e = ap some (sym (eqb-true m 0 e))
+    go false e = rw e
 
-abbrev pub ofSide : {S : Type 0} → S ⊎ (ℕ × (S × S)) → Segment S
-ofSide (inl d) = passive d
-ofSide (inr p) = activeOf p
+pub memory-to-of : (x : Unit {0} ⊎ ℕ) (m : ℕ) → zeroOrOther .Ok x → memoryOf x ≡ some m → (m < 2 ^ 32) × (x ≡ memoryTo m)
+memory-to-of (inl u) m h e = let z : m ≡ 0 = cc in (omega arith, rw z)
+memory-to-of (inr n) m h e = go (is 0 n) refl e
+  where
+    go : (c : Bool) → is 0 n ≡ c → cond c none (some n) ≡ some m → (m < 2 ^ 32) × (inr n ≡ memoryTo m)
+    go true i q = let z : _≡_ {A = ℕ} 0 1 = cc in absurd (omega arith)
+    go false i q = let z : n ≡ m = cc in (rw z at h, rw (← z, i))
 
-pub side-back : {S : Type 0} (x : Segment S) → ofSide (sideOf x) ≡ x
-side-back (passive d) = refl
-side-back (active m o d) = refl
+abbrev pub memoryBytes : Format ℕ
+memoryBytes =
+    via zeroOrOther (record { OkA = λ m. m < 2 ^ 32; to = memoryTo; of = memoryOf; fits = memory-fits; of-to = memory-of-to; to-of = memory-to-of })
 
-pub of-side : {S : Type 0} (x : S ⊎ (ℕ × (S × S))) → sideOf (ofSide x) ≡ x
-of-side (inl d) = refl
-of-side (inr p) = refl
+-- a word in a record
+pub memory-agree : Agree word memoryBytes
+memory-agree m = (λ h. h, λ h. h)
 
--- ---- words, behind the 11: mode (0 passive, 1 active), memory, offset span, data span; unused words are 0
+abbrev pub memory : Section ℕ ℕ
+memory = textless word memoryBytes memory-agree
 
-abbrev pub passiveWords : Format Span
-passiveWords = tag 0 (tag 0 (tag 0 (tag 0 span)))
+-- ---- passive: data; active: a memory, the offset and data
 
-abbrev pub activeWords : Format (ℕ × (Span × Span))
-activeWords = tag 1 (pair word (pair span span))
+pub data Mode : Type 0 where
+  passive active : Mode
 
-abbrev pub words : Format (Segment Span)
-words =
-    iso (alt (is 0) passiveWords activeWords (heads-tag 0 (tag 0 (tag 0 (tag 0 span))) (is 0) true refl) (heads-tag 1 (pair word (pair span span)) (is 0) false refl))
-    sideOf ofSide side-back of-side
+abbrev pub SegmentOf : Mode → Type 0 → Type 0
+SegmentOf passive S = S
+SegmentOf active S = ℕ × (S × S)
 
--- a record, and what was read of words, as an answer
-abbrev pub told : Segment Span → DataRecord
-told (passive d) = Passive d
-told (active m o d) = Active m o d
+abbrev pub Segment : Type 0 → Type 0
+Segment S = (m : Mode) × SegmentOf m S
 
-abbrev pub recordOf : Parsed (Segment Span) → DataRecord
-recordOf fail = No
-recordOf (got x r) = told x
+-- words, behind the 11: mode (0 passive, 1 active), memory, offset span, data span; unused words are 0
+-- bytes: active in memory 0 is 00 offset, in another memory 02 memory offset, passive 01; then length and bytes
+abbrev pub form : (m : Mode) → Section (SegmentOf m Span) (SegmentOf m (List ℕ))
+form passive = behind 1 (tagged 0 (tagged 0 (tagged 0 content)))
+form active = both memory (both expression content)
 
--- ---- bytes: active in memory 0 is 00 offset, in another memory 02 memory offset, passive 01; then length and bytes
+-- the mode word
+abbrev pub modeCode : Mode → ℕ
+modeCode = elim [ passive ↦ 0 | active ↦ 1 ]
 
-not-true : (c : Bool) → not c ≡ true → c ≡ false
-not-true true e = absurd (true≢false (sym e))
-not-true false e = refl
+pub mode-small : (m : Mode) → modeCode m < 2
+mode-small = elim [ passive ↦ lit< tt | active ↦ lit< tt ]
 
-pub some-zero : {m : ℕ} → some 0 ≡ some m → m ≡ 0
-some-zero e = cc
+pub mode-full : (m : Mode) → find modeCode (passive ∷ active ∷ []) (modeCode m) ≡ some m
+mode-full = elim [ passive ↦ refl | active ↦ refl ]
 
--- memory 0 takes no bytes of its own
-abbrev pub memoryZero : Format ℕ
-memoryZero =
-    via empty
-    (record { OkA = λ m. m ≡ 0; to = λ m. tt; of = λ u. some 0; fits = λ m h. tt; of-to = λ m h. ap some (sym h); to-of = λ u m h e. (some-zero e, refl) })
+abbrev pub modeWord : Format Mode
+modeWord = table 2 modeCode (passive ∷ active ∷ []) mode-small mode-full
 
-abbrev pub otherMemory : Format ℕ
-otherMemory = guard u32 (λ m. not (is 0 m))
+-- 01 begins no memory
+abbrev pub modeAt : List ℕ → Mode
+modeAt [] = active
+modeAt (x ∷ s) = cond (is 1 x) passive active
 
-pub apart : Apart (is 0) (is 0) (tag 0 memoryZero) (tag 2 otherMemory)
-apart =
-    record {
-      firstHeads = heads-tag 0 memoryZero (is 0) true refl;
-      secondHeads = heads-tag 2 otherMemory (is 0) false refl;
-      firstOk = λ m h. eq-eqb m 0 h;
-      secondOk = λ m h. not-true (is 0 m) (h .1);
-    }
+pub active-heads : Heads (form active .bytes) (is 1) false
+active-heads = heads-pair memoryBytes (both expression content .bytes) (is 1) false (λ m ok. memory-heads (memoryTo m) (memory-fits m ok))
+  where
+    memory-heads : Heads zeroOrOther (is 1) false
+    memory-heads = heads-alt (is 0) (lit 0) (tag 2 u32) (is 1) false (heads-tag 0 empty (is 1) false refl) (heads-tag 2 u32 (is 1) false refl)
 
-abbrev pub memory : Format ℕ
-memory = union (is 0) (is 0) (tag 0 memoryZero) (tag 2 otherMemory) apart
+pub mode-told : (m : Mode) (x : SegmentOf m (List ℕ)) (r : List ℕ) → form m .bytes .Ok x → modeAt (form m .bytes .print x ++ r) ≡ m
+mode-told passive x r ok = refl
+mode-told active x r ok = let (y, t, e, n) = active-heads x ok in ap (λ (l : List ℕ). modeAt (l ++ r)) e ∙ rw n
 
-pub memory-heads : Heads memory (is 1) false
-memory-heads =
-    heads-union (is 0) (is 0) (tag 0 memoryZero) (tag 2 otherMemory) apart (is 1) false (heads-tag 0 memoryZero (is 1) false refl) (heads-tag 2 otherMemory (is 1) false refl)
-
-abbrev pub activeBytes : Format (ℕ × (List ℕ × List ℕ))
-activeBytes = pair memory (pair expr (sized u32))
-
--- the items of active segments, and of all
 abbrev pub bytes : Format (Segment (List ℕ))
-bytes =
-    iso (alt (is 1) (tag 1 (sized u32)) activeBytes (heads-tag 1 (sized u32) (is 1) true refl) (heads-pair memory (pair expr (sized u32)) (is 1) false memory-heads))
-    sideOf ofSide side-back of-side
+bytes = one modeAt (λ m. form m .bytes) mode-told
 
--- ---- what an add writes of a record with the text t, and the lowest refusal that its texts draw
-
-abbrev pub itemOf : List ℕ → Segment Span → List ℕ
-itemOf t x = bytes .print (mapped (sliceOf t) x)
-
-abbrev pub lowOf : List ℕ → Segment Span → ℕ
-lowOf t x = lowestOf t (textsOf x)
+abbrev pub dataSection : Section (Segment Span) (Segment (List ℕ))
+dataSection = chosen modeWord (λ m. tt) form bytes (λ x. (λ h. h, λ h. h)) (λ x. refl)

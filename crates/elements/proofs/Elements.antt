@@ -7,19 +7,18 @@ use Prim.Native.Nat.{ℕ, _+_, _-_, _<_, _≤_, min}
 use native.Mathlib.Omega.{arith}
 use lib.Dec.{eqb}
 use lib.ListN.{length, getD, drop}
-use Rattle.format.specs.Parsed.{got, fail, map-same}
+use Rattle.format.specs.Parsed.{map-same}
 use Rattle.format.specs.Basic.{bit, flag}
-use Rattle.format.specs.Count.{Adds, silent, adds-nil, adds-seq, adds-eq}
+use Rattle.format.specs.Count.{Appends, noRefusal, silent, adds-nil, adds-seq}
 use Rattle.format.specs.Lists.{many}
 use Rattle.format.specs.Read.{one-read, none-read, too-few}
-use Rattle.format.specs.Sequence.{Joins, leaves, pair-plain, dep-known}
-use Rattle.format.specs.Steps.{nothing-there, value-there, first-missing, second-follows}
-use Rattle.format.specs.Walk.{Walks, walked-as, walks-tail}
+use Rattle.format.specs.Sequence.{Joins, leaves, pair-plain, dep-known, first-missing, second-follows}
+use Rattle.format.specs.Walk.{Walks, nothing-there, value-there, walks-as}
 use Rattle.format.specs.declared.Done.{Done}
 use Rattle.format.specs.declared.Walk.{Walk}
 use Rattle.format.specs.declared.Walk.the-variants as walks
 use Rattle.leb128.specs.Formats.{u32}
-use Rattle.texts.specs.Steps.{AreWords}
+use Rattle.texts.specs.WordWalks.{AreWords}
 use Rattle.texts.specs.Words.{word, span}
 use Rattle.texts.specs.declared.Span.{Span}
 use Rattle.types.specs.Words.{refWords, refOf, refTo}
@@ -47,11 +46,11 @@ pub other-type : (m : Mode) (e : Bool) (h k : ℕ) → m ≡ Active → e ≡ tr
 other-type m e h k p q z = rw (p, q, z)
 
 module _ {other : Bool} (m : Mode) (e : Bool) {old : List ℕ} {s : Done} {new : List ℕ} {u : Done} where
-  pub other-added : other ≡ true → {cur : List ℕ} {t : Done} → Adds (6 ∷ []) 9 old s cur t → Adds (0 ∷ []) 9 cur t new u → Adds (headOf other m e) 9 old s new u
-  other-added o a b = subst (λ (k : Bool). Adds (headOf k m e) 9 old s new u) (sym o) (adds-seq a b)
+  pub other-added : other ≡ true → {cur : List ℕ} {t : Done} → Appends (6 ∷ []) old s cur t → Appends (0 ∷ []) cur t new u → Appends (headOf other m e) old s new u
+  other-added o a b = subst (λ (k : Bool). Appends (headOf k m e) old s new u) (sym o) (adds-seq a b)
 
-  pub flag-added : other ≡ false → {f : ℕ} → f ≡ flagOf m e → Adds (f ∷ []) 9 old s new u → Adds (headOf other m e) 9 old s new u
-  flag-added o f a = subst (λ (k : Bool). Adds (headOf k m e) 9 old s new u) (sym o) (subst (λ (n : ℕ). Adds (n ∷ []) 9 old s new u) f a)
+  pub flag-added : other ≡ false → {f : ℕ} → f ≡ flagOf m e → Appends (f ∷ []) old s new u → Appends (headOf other m e) old s new u
+  flag-added o f a = subst (λ (k : Bool). Appends (headOf k m e) old s new u) (sym o) (subst (λ (n : ℕ). Appends (n ∷ []) old s new u) f a)
 
 -- ---- the type
 
@@ -112,18 +111,16 @@ module _ (said : Bool) {w : List ℕ} {at : ℕ} {old : List ℕ} {s : Done} {r 
     then-functions k t y =
         subst (λ (j : Bool). Walks (elementsWordsOf false) (functionsOf j) silent w at old s new r′) (sym t) (second-follows (unused-joins (many word word) (functionsOf k)) (x old) e y)
 
-    pub then-said-functions : said ≡ true → {cur : List ℕ} {v : Done} → Adds (0x00 ∷ []) 9 old u cur v → Walks (many word word) (many u32 u32 .print) silent w p cur v new r′
+    pub then-said-functions : said ≡ true → {cur : List ℕ} {v : Done} → Appends (0x00 ∷ []) old u cur v → Walks (many word word) (many u32 u32 .print) silent w p cur v new r′
         → Walks (elementsWordsOf false) (functionsOf said) silent w at old s new r′
-    then-said-functions t {cur} {v} a y =
-        then-functions true t
-        (walks-tail (many word word) (many u32 u32 .print) silent (many word word) (functionsOf true) silent (λ x. x) (0x00 ∷ []) 9 w p p old u cur v new r′ (map-same (many word word .parse (drop p w))) (λ x. refl) (λ x. refl) a y)
+    then-said-functions t a y = then-functions true t (walks-as (λ x. x) (map-same (many word word .parse (drop p w))) (λ x. refl) (λ x. refl) a y)
 
     pub then-bare-functions : said ≡ false → Walks (many word word) (many u32 u32 .print) silent w p old u new r′ → Walks (elementsWordsOf false) (functionsOf said) silent w at old s new r′
     then-bare-functions t y = then-functions false t y
 
 -- ---- behind their kind
 
-low-none : (t : List ℕ) (e : Bool) (q : ElementsOf e Span) → min 9 (lowFrom t e q) ≡ lowFrom t e q
+low-none : (t : List ℕ) (e : Bool) (q : ElementsOf e Span) → min noRefusal (lowFrom t e q) ≡ lowFrom t e q
 low-none t false q = refl
 low-none t true q = lowest-behind t (textsOf expression (q .1))
 
@@ -132,11 +129,7 @@ module _ (said : Bool) (t : List ℕ) {w : List ℕ} {at : ℕ} {old : List ℕ}
     kind-known : (e : Bool) → getD w at 0 ≡ bit e → Walks (elementsWordsOf e) (elementsFrom said t e) (lowFrom t e) w (at + 1) old s new r
         → Walks elementsWords (elementsOf said t) (elementsLow t) w at old s new r
     kind-known e k x =
-        record {
-          walked = walked-as (elementsFrom said t e) (lowFrom t e) (elementsOf said t) (elementsLow t) (λ q. (e, q)) [] 9 w (elementsWordsOf e .parse (drop (at + 1) w))
-              (elementsWords .parse (drop at w)) old s old s new r (dep-known flag elementsWordsOf e (drop at w) (drop (at + 1) w) (one-read flag e (bit e) tt refl w at h k)) (λ q z i. refl)
-              (low-none t e) (adds-nil old s) (x .walked);
-        }
+        walks-as (λ q. (e, q)) (dep-known flag elementsWordsOf e (drop at w) (drop (at + 1) w) (one-read flag e (bit e) tt refl w at h k)) (λ q. refl) (low-none t e) (adds-nil old s) x
 
     pub functions-kind : getD w at 0 ≡ 0 → Walks (elementsWordsOf false) (functionsOf said) silent w (at + 1) old s new r
         → Walks elementsWords (elementsOf said t) (elementsLow t) w at old s new r

@@ -8,15 +8,14 @@ use lib.Dec.{leb}
 use lib.ListN.{length, getD, drop}
 use borrow.Author.Tests.{le-leb, lt-leb}
 use Rattle.format.specs.Parsed.{fail, got}
-use Rattle.format.specs.Count.{Adds, silent}
+use Rattle.format.specs.Count.{Appends}
 use Rattle.format.specs.Read.{one-read, none-read}
 use Rattle.format.specs.Sequence.{dep-known}
-use Rattle.format.specs.Steps.{nothing-left, nothing-there}
-use Rattle.format.specs.Walk.{Walked, walked-as}
+use Rattle.format.specs.Walk.{nothing-left, nothing-there, walks-as}
 use Rattle.format.specs.declared.Done.{Done}
 use Rattle.format.specs.declared.Walk.{Walk}
 use Rattle.format.specs.declared.Walk.the-variants as walks
-use Rattle.parts.specs.Reading.{Reading, recordAt, part-missing, part-follows}
+use Rattle.parts.specs.Reading.{Reading, part-missing, part-follows}
 use Rattle.elements.specs.Mode.{modeWords, place}
 use Rattle.elements.specs.Members.{members}
 use Rattle.elements.specs.Item.{code, flagOf, flag-small, flagByte, isTyped, body, bytes}
@@ -36,16 +35,14 @@ module _ {b : List ℕ} {at : ℕ} {old : List ℕ} {s : Done} {new : List ℕ} 
         e = none-read flagByte code (λ f. refl) b at h (λ f p. omega (arith, flag-small f))
 
     -- e: expressions are listed; the mode is appended already
-    module _ (m : Mode) {cur : List ℕ} {u : Done} (a : Adds (modeWords .print m) 9 old s cur u) where
+    module _ (m : Mode) {cur : List ℕ} {u : Done} (a : Appends (modeWords .print m) old s cur u) where
       body-reads : (e : Bool) → flagOf m e ≡ getD b at 0 → {r : Walk} → Reading (body (m, e)) b (at + 1) cur u new r → Reading elementSection b at old s new r
-      body-reads e f {r} x = record { reads = λ k. record { walked = go } }
-        where
-          go : Walked (recordAt elementSection at) silent b (bytes .parse (drop at b)) old s new r
-          go =
-              let p : flagByte .parse (drop at b) ≡ got (m, e) (drop (at + 1) b) = one-read flagByte (m, e) (getD b at 0) tt (ap (λ (n : ℕ). n ∷ []) f) b at h refl in
-              walked-as (recordAt (body (m, e)) (at + 1)) silent (recordAt elementSection at) silent (λ y. ((m, e), y)) (modeWords .print m) 9 b (body (m, e) .bytes .parse (drop (at + 1) b))
-              (bytes .parse (drop at b)) old s cur u new r (dep-known flagByte (λ f. body f .bytes) (m, e) (drop at b) (drop (at + 1) b) p)
-              (λ y q i. sym (record-prints ((m, e), body (m, e) .locate (at + 1) y))) (λ y. refl) a (x .reads (omega arith) .walked)
+      body-reads e f x =
+          let p : flagByte .parse (drop at b) ≡ got (m, e) (drop (at + 1) b) = one-read flagByte (m, e) (getD b at 0) tt (ap (λ (n : ℕ). n ∷ []) f) b at h refl in
+          record {
+            reads = λ k. walks-as (λ y. ((m, e), y)) (dep-known flagByte (λ f. body f .bytes) (m, e) (drop at b) (drop (at + 1) b) p)
+                (λ y. sym (record-prints ((m, e), body (m, e) .locate (at + 1) y))) (λ y. refl) a (x .reads (omega arith));
+          }
 
       module _ (f : flagOf m (leb 4 (getD b at 0)) ≡ getD b at 0) where
         -- the place is not read

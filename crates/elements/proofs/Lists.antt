@@ -5,10 +5,9 @@ use mathlib.Core.List.{List, [], _∷_}
 use Prim.Native.Nat.{ℕ, _+_, _<_, _≤_}
 use native.Mathlib.Omega.{arith}
 use lib.ListN.{length, getD}
-use Rattle.format.specs.Count.{Adds, silent, adds-seq}
+use Rattle.format.specs.Count.{Appends, silent, adds-seq}
 use Rattle.format.specs.Lists.{many}
-use Rattle.format.specs.Steps.{nothing-there}
-use Rattle.format.specs.Walk.{Walks}
+use Rattle.format.specs.Walk.{Walks, nothing-there}
 use Rattle.format.specs.declared.Done.{Done}
 use Rattle.format.specs.declared.Walk.{Walk}
 use Rattle.format.specs.declared.Walk.the-variants as walks
@@ -21,9 +20,9 @@ use Rattle.types.specs.Bytes.{refBytes}
 use Rattle.parts.specs.Text.{expression}
 use Rattle.parts.specs.Both.{both}
 use Rattle.parts.specs.Listed.{listed}
-use Rattle.parts.specs.Reading.{Reading, part-missing, part-follows, behind-reads}
+use Rattle.parts.specs.Reading.{Reading, part-missing, part-follows, behind-reads, words-before}
 use Rattle.elements.specs.Members.{indices, functions, refType, expressions, funcrefs, members}
-use Rattle.elements.proofs.Tags.{tag-end, tag-not, stands, words-before, expr-long}
+use Rattle.elements.proofs.Tags.{tag-end, tag-not, stands, expr-long}
 
 -- an expression takes a byte, and its span a word
 pub byte-each : (x : List ℕ) → expr .Ok x → 0 < length (expr .print x)
@@ -46,7 +45,7 @@ module _ {said : Bool} {b : List ℕ} {at : ℕ} {old : List ℕ} {s : Done} {ne
       pub functions-not : (getD b at 0 ≡ 0 → ⊥) → Reading (members false said) b at old s new walks.No
       functions-not n = as-members false t (record { reads = λ k. nothing-there (tag-not 0x00 (many u32 u32) b at h n) })
 
-      pub said-functions : {o₁ : List ℕ} {s₁ : Done} {cur : List ℕ} {u : Done} {r : Walk} → getD b at 0 ≡ 0 → Adds (0 ∷ []) 9 old s o₁ s₁ → Adds (0 ∷ 0 ∷ []) 9 o₁ s₁ cur u
+      pub said-functions : {o₁ : List ℕ} {s₁ : Done} {cur : List ℕ} {u : Done} {r : Walk} → getD b at 0 ≡ 0 → Appends (0 ∷ []) old s o₁ s₁ → Appends (0 ∷ 0 ∷ []) o₁ s₁ cur u
           → Walks (many u32 u32) (many word word .print) silent b (at + 1) cur u new r → Reading (members false said) b at old s new r
       said-functions {r = r} e a c x =
           as-members false t
@@ -54,7 +53,7 @@ module _ {said : Bool} {b : List ℕ} {at : ℕ} {old : List ℕ} {s : Done} {ne
           (words-before indices functions (0 ∷ 0 ∷ 0 ∷ []) (λ s. refl) (λ n x. refl) (adds-seq a c) (record { reads = λ k. x })))
 
     -- a type, and expressions
-    module _ {o₁ : List ℕ} {s₁ : Done} (a : Adds (1 ∷ []) 9 old s o₁ s₁) where
+    module _ {o₁ : List ℕ} {s₁ : Done} (a : Appends (1 ∷ []) old s o₁ s₁) where
       typed : {r′ : Walk} → Reading (both refType (listed expression)) b at o₁ s₁ new r′ → Reading (members true said) b at old s new r′
       typed x = as-members true t (words-before (both refType (listed expression)) expressions (1 ∷ []) (λ s. refl) (λ n y. refl) a x)
 
@@ -67,9 +66,9 @@ module _ {said : Bool} {b : List ℕ} {at : ℕ} {old : List ℕ} {s : Done} {ne
 
   -- neither is said
   module _ (t : said ≡ false) {o₁ : List ℕ} {s₁ : Done} {cur : List ℕ} {u : Done} {r : Walk} where
-    pub bare-functions : Adds (0 ∷ []) 9 old s o₁ s₁ → Adds (0 ∷ 0 ∷ []) 9 o₁ s₁ cur u → Walks (many u32 u32) (many word word .print) silent b at cur u new r
+    pub bare-functions : Appends (0 ∷ []) old s o₁ s₁ → Appends (0 ∷ 0 ∷ []) o₁ s₁ cur u → Walks (many u32 u32) (many word word .print) silent b at cur u new r
         → Reading (members false said) b at old s new r
     bare-functions a c x = as-members false t (words-before indices functions (0 ∷ 0 ∷ 0 ∷ []) (λ s. refl) (λ n x. refl) (adds-seq a c) (record { reads = λ k. x }))
 
-    pub funcrefs-read : Adds (1 ∷ []) 9 old s o₁ s₁ → Adds (16 ∷ 0 ∷ []) 9 o₁ s₁ cur u → Reading (listed expression) b at cur u new r → Reading (members true said) b at old s new r
+    pub funcrefs-read : Appends (1 ∷ []) old s o₁ s₁ → Appends (16 ∷ 0 ∷ []) o₁ s₁ cur u → Reading (listed expression) b at cur u new r → Reading (members true said) b at old s new r
     funcrefs-read a c x = as-members true t (words-before (listed expression) funcrefs (1 ∷ 16 ∷ 0 ∷ []) (λ s. refl) (λ n y. refl) (adds-seq a c) x)

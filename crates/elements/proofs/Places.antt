@@ -3,9 +3,8 @@ use mathlib.Core.Path.{_≡_, refl, sym, subst}
 use mathlib.Core.List.{List, [], _∷_}
 use Prim.Native.Nat.{ℕ, _+_, _<_, _≤_}
 use lib.ListN.{length, getD}
-use Rattle.format.specs.Count.{Adds, silent, adds-seq}
-use Rattle.format.specs.Steps.{nothing-there, value-there}
-use Rattle.format.specs.Walk.{Walks}
+use Rattle.format.specs.Count.{Appends, silent, adds-seq}
+use Rattle.format.specs.Walk.{Walks, nothing-there, value-there}
 use Rattle.format.specs.declared.Done.{Done}
 use Rattle.format.specs.declared.Walk.{Walk}
 use Rattle.format.specs.declared.Walk.the-variants as walks
@@ -14,26 +13,26 @@ use Rattle.texts.specs.Words.{word, span}
 use Rattle.types.specs.Vals.{unused}
 use Rattle.parts.specs.Text.{expression}
 use Rattle.parts.specs.Reading as reading
-use Rattle.parts.specs.Reading.{Reading}
+use Rattle.parts.specs.Reading.{Reading, words-before}
 use Rattle.parts.specs.Writing as writing
 use Rattle.parts.specs.Writing.{Writing}
 use Rattle.elements.specs.Mode.{modeWords, nowhere, tableIndex, place}
 use Rattle.elements.specs.declared.Mode.{Mode}
 use Rattle.elements.specs.declared.Mode.the-variants.{Active, Passive, ActiveTable, Declared}
-use Rattle.elements.proofs.Tags.{tag-end, tag-not, tag-walks, words-before}
+use Rattle.elements.proofs.Tags.{tag-end, tag-not, tag-walks}
 
 -- ---- the words of a mode
 
-pub two-added : {a b : ℕ} {old : List ℕ} {s : Done} {cur : List ℕ} {t : Done} {new : List ℕ} {u : Done} → Adds (a ∷ []) 9 old s cur t → Adds (b ∷ []) 9 cur t new u
-    → Adds (a ∷ b ∷ []) 9 old s new u
+pub two-added : {a b : ℕ} {old : List ℕ} {s : Done} {cur : List ℕ} {t : Done} {new : List ℕ} {u : Done} → Appends (a ∷ []) old s cur t → Appends (b ∷ []) cur t new u
+    → Appends (a ∷ b ∷ []) old s new u
 two-added a b = adds-seq a b
 
-pub mode-added : (n : Mode) {m : Mode} {old : List ℕ} {s : Done} {new : List ℕ} {u : Done} → m ≡ n → Adds (modeWords .print n) 9 old s new u → Adds (modeWords .print m) 9 old s new u
-mode-added n {m} {old} {s} {new} {u} e a = subst (λ (k : Mode). Adds (modeWords .print k) 9 old s new u) (sym e) a
+pub mode-added : (n : Mode) {m : Mode} {old : List ℕ} {s : Done} {new : List ℕ} {u : Done} → m ≡ n → Appends (modeWords .print n) old s new u → Appends (modeWords .print m) old s new u
+mode-added n {m} {old} {s} {new} {u} e a = subst (λ (k : Mode). Appends (modeWords .print k) old s new u) (sym e) a
 
 -- ---- reading
 
-pub nowhere-reads : {at : ℕ} {old : List ℕ} {s : Done} {cur : List ℕ} {t : Done} {new : List ℕ} {u : Done} → Adds (0 ∷ []) 9 old s cur t → Adds (0 ∷ 0 ∷ []) 9 cur t new u → (b : List ℕ)
+pub nowhere-reads : {at : ℕ} {old : List ℕ} {s : Done} {cur : List ℕ} {t : Done} {new : List ℕ} {u : Done} → Appends (0 ∷ []) old s cur t → Appends (0 ∷ 0 ∷ []) cur t new u → (b : List ℕ)
     → Reading nowhere b at old s new (walks.Got at u)
 nowhere-reads a c b = record { reads = λ h. value-there {a = tt} (adds-seq a c) refl h }
 
@@ -50,7 +49,7 @@ module _ {b : List ℕ} {at : ℕ} {old : List ℕ} {s : Done} {new : List ℕ} 
   table-offset-reads x e y = reading.part-follows tableIndex expression (record { reads = λ h. x }) e y
 
   module _ {m : Mode} where
-    pub active-reads : m ≡ Active → {cur : List ℕ} {u : Done} → Adds (0 ∷ []) 9 old s cur u → Reading expression b at cur u new r → Reading (place m) b at old s new r
+    pub active-reads : m ≡ Active → {cur : List ℕ} {u : Done} → Appends (0 ∷ []) old s cur u → Reading expression b at cur u new r → Reading (place m) b at old s new r
     active-reads e a x = reads-in Active e (words-before expression (place Active) (0 ∷ []) (λ s. refl) (λ n x. refl) a x)
 
     pub passive-reads : m ≡ Passive → ((c : List ℕ) → Reading nowhere c at old s new r) → Reading (place m) b at old s new r

@@ -11,11 +11,10 @@ use Rattle.format.specs.Parsed.{got}
 use Rattle.format.specs.Format.{Format}
 use Rattle.format.specs.Basic.{bit, eqb-bit, flag}
 use Rattle.format.specs.Combine.{pair}
-use Rattle.format.specs.Count.{Adds}
+use Rattle.format.specs.Count.{Appends, noRefusal}
 use Rattle.format.specs.Read.{too-few}
-use Rattle.format.specs.Sequence.{Joins, leaves, pair-plain, dep-known}
-use Rattle.format.specs.Steps.{nothing-there, first-missing, second-follows}
-use Rattle.format.specs.Walk.{Walks, walked-as}
+use Rattle.format.specs.Sequence.{Joins, leaves, pair-plain, dep-known, first-missing, second-follows}
+use Rattle.format.specs.Walk.{Walks, nothing-there, walks-read}
 use Rattle.format.specs.declared.Done.{Done}
 use Rattle.format.specs.declared.Walk.{Walk}
 use Rattle.format.specs.declared.Walk.the-variants as walks
@@ -112,20 +111,16 @@ module _ (t w : List ℕ) (at : ℕ) (m : Mode) (is : modeWords .parse (drop at 
         ∙ ap (λ (o : Bool). headOf o m e ++ restOf t m (isSaid o m) (p, (e, y))) other-is
         ∙ item-written t m p e y
 
-  low-is : (q : PlaceOf m Span × Elements Span) → min 9 (restLow t m (isSaid other m) q) ≡ lowOf elementSection t (m, q)
-  low-is q = ap (min 9) (low-written t m (q .0) (q .1 .0) (q .1 .1)) ∙ lowest-behind t (elementSection .texts (m, q))
+  low-is : (q : PlaceOf m Span × Elements Span) → min noRefusal (restLow t m (isSaid other m) q) ≡ lowOf elementSection t (m, q)
+  low-is q = ap (min noRefusal) (low-written t m (q .0) (q .1 .0) (q .1 .1)) ∙ lowest-behind t (elementSection .texts (m, q))
 
-  segment-walks : (o said : Bool) → o ≡ other → said ≡ isSaid o m → (old : List ℕ) (s : Done) (cur : List ℕ) (u : Done) (new : List ℕ) (r : Walk)
-      → Adds (headOf o m kind) 9 old s cur u → Walks (restWords m) (restOf t m said) (restLow t m said) w (at + 2) cur u new r → Writing elementSection t w at old s new r
-  segment-walks o said oe se old s cur u new r a x =
+  segment-walks : (o said : Bool) → o ≡ other → said ≡ isSaid o m → {old : List ℕ} {s : Done} {cur : List ℕ} {u : Done} {new : List ℕ} {r : Walk} → Appends (headOf o m kind) old s cur u
+      → Walks (restWords m) (restOf t m said) (restLow t m said) w (at + 2) cur u new r → Writing elementSection t w at old s new r
+  segment-walks o said oe se {old} {s} {cur} {u} {new} {r} a x =
       let si : said ≡ isSaid other m = se ∙ ap (λ (k : Bool). isSaid k m) oe in
       record {
-        writes = record {
-          walked = walked-as (restOf t m (isSaid other m)) (restLow t m (isSaid other m)) (itemOf elementSection t) (lowOf elementSection t) (λ q. (m, q)) (headOf other m kind) 9 w
-              (restWords m .parse (drop (at + 2) w)) (words .parse (drop at w)) old s cur u new r (dep-known modeWords restWords m (drop at w) (drop (at + 2) w) is)
-              (λ q z e. item-is (q .0) (q .1 .0) (q .1 .1) z e) low-is (subst (λ (k : Bool). Adds (headOf k m kind) 9 old s cur u) oe a)
-              (subst (λ (k : Bool). Walks (restWords m) (restOf t m k) (restLow t m k) w (at + 2) cur u new r) si x .walked);
-        };
+        writes = walks-read (λ q. (m, q)) (dep-known modeWords restWords m (drop at w) (drop (at + 2) w) is) (λ q z e. item-is (q .0) (q .1 .0) (q .1 .1) z e) low-is
+            (subst (λ (k : Bool). Appends (headOf k m kind) old s cur u) oe a) (subst (λ (k : Bool). Walks (restWords m) (restOf t m k) (restLow t m k) w (at + 2) cur u new r) si x);
       }
 
 -- ---- what the code has read
@@ -138,12 +133,12 @@ module _ {t w : List ℕ} {at : ℕ} {old : List ℕ} {s : Done} {new : List ℕ
     pub segment-short : length w - at < 8 → Writing elementSection t w at old s new walks.No
     segment-short k = record { writes = nothing-there (too-few words 8 (omega arith) (λ x ok. segment-long x) w at (omega (arith, mode-within w at d e))) }
 
-    module _ {o : Bool} (oe : o ≡ isOther m (eqb (getD w (at + 5) 0) 1) (getD w (at + 6) 0)) {cur : List ℕ} {u : Done} (a : Adds (headOf o m (eqb (getD w (at + 5) 0) 1)) 9 old s cur u) where
+    module _ {o : Bool} (oe : o ≡ isOther m (eqb (getD w (at + 5) 0) 1) (getD w (at + 6) 0)) {cur : List ℕ} {u : Done} (a : Appends (headOf o m (eqb (getD w (at + 5) 0) 1)) old s cur u) where
       pub place-missing : {r : Walk} → Writing (place m) t w (at + 2) cur u new r → r ≡ walks.No → Writing elementSection t w at old s new walks.No
       place-missing x q =
-          segment-walks t w at m (mode-found w at d e) o (isSaid o m) oe refl old s cur u new walks.No a (first-missing (rest-joins t m (isSaid o m)) (x .writes) q)
+          segment-walks t w at m (mode-found w at d e) o (isSaid o m) oe refl a (first-missing (rest-joins t m (isSaid o m)) (x .writes) q)
 
       pub elements-follow : {mid : List ℕ} {r : Walk} {p : ℕ} {v : Done} {said : Bool} {r′ : Walk} → Writing (place m) t w (at + 2) cur u mid r → r ≡ walks.Got p v → said ≡ isSaid o m
           → Walks elementsWords (elementsOf said t) (elementsLow t) w p mid v new r′ → Writing elementSection t w at old s new r′
-      elements-follow {said = said} {r′} x q i y =
-          segment-walks t w at m (mode-found w at d e) o said oe i old s cur u new r′ a (second-follows (rest-joins t m said) (x .writes) q y)
+      elements-follow {said = said} x q i y =
+          segment-walks t w at m (mode-found w at d e) o said oe i a (second-follows (rest-joins t m said) (x .writes) q y)

@@ -1,7 +1,7 @@
 -- A fixed number at a place of words, and fixed words before a part's own. Assumes nothing.
 use mathlib.Core.Path.{_≡_, refl, sym, subst}
 use mathlib.Core.Bool.{Bool, true, false, cond}
-use mathlib.Core.List.{List, [], _∷_, _++_}
+use mathlib.Core.List.{List, [], _∷_}
 use Prim.Native.Nat.{ℕ, _+_, _<_, _≤_}
 use native.Mathlib.Omega.{arith}
 use lib.Dec.{eqb}
@@ -10,16 +10,14 @@ use borrow.Author.Tests.{eq-eqb, ne-eqb}
 use Rattle.format.specs.Parsed.{Parsed, fail, bind, map, map-same}
 use Rattle.format.specs.Format.{Format}
 use Rattle.format.specs.Basic.{tag, lit}
-use Rattle.format.specs.Count.{Adds, silent}
+use Rattle.format.specs.Count.{silent}
 use Rattle.format.specs.Read.{drop-more, drop-end}
 use Rattle.format.specs.Sequence.{Joins, leaves}
-use Rattle.format.specs.Walk.{Walked, Walks, walks-tail}
+use Rattle.format.specs.Walk.{Walked, Walks}
 use Rattle.format.specs.declared.Done.{Done}
 use Rattle.format.specs.declared.Walk.{Walk}
 use Rattle.exprs.specs.Grammar.{Expr, stop, more}
-use Rattle.texts.specs.Section.{Section}
 use Rattle.types.specs.Vals.{unused}
-use Rattle.parts.specs.Reading.{Reading, recordAt}
 
 pub stands : (k : ℕ) (w : List ℕ) (at : ℕ) → at < length w → getD w at 0 ≡ k → drop at w ≡ k ∷ drop (at + 1) w
 stands k w at h e = rw (drop-more w at h, e)
@@ -59,16 +57,6 @@ module _ {A : Type 0} (F : Format A) (f : A → List ℕ) where
 
   pub unused-joins : Joins (unused .parse) (λ u. []) silent (F .parse) f silent (tag 0 (tag 0 F) .parse) f silent
   unused-joins = record { ends = leaves unused; join = λ u x. x; reads = both; writes = λ u x. refl; draws = λ u x. refl }
-
--- T reads the bytes that S reads, and has the words pre before those of S
-pub words-before : {A C B : Type 0} (S : Section A B) (T : Section C B) (pre : List ℕ) → ((s : List ℕ) → T .bytes .parse s ≡ S .bytes .parse s)
-    → ((n : ℕ) (x : B) → pre ++ recordAt S n x ≡ recordAt T n x) → {b : List ℕ} {at : ℕ} {old : List ℕ} {s : Done} {cur : List ℕ} {u : Done} {new : List ℕ} {r : Walk}
-    → Adds pre 9 old s cur u → Reading S b at cur u new r → Reading T b at old s new r
-words-before S T pre e w {b} {at} {old} {s} {cur} {u} {new} {r} a x =
-    record {
-      reads = λ h. walks-tail (S .bytes) (recordAt S at) silent (T .bytes) (recordAt T at) silent (λ y. y) pre 9 b at at old s cur u new r
-          (rw (e (drop at b)) (map-same (S .bytes .parse (drop at b)))) (w at) (λ y. refl) a (x .reads h);
-    }
 
 -- an expression takes a byte at least
 pub expr-long : {e : List ℕ} → Expr e → 0 < length e

@@ -17,10 +17,11 @@ ghost use mathlib.Core.List.{List, [], _∷_};
 ghost use Prim.Native.Nat.{ℕ, _≤_};
 ghost use lib.Dec.{leb};
 ghost use lib.ListN.{length};
-ghost use Rattle.format.specs.Count.{Adds};
+ghost use Rattle.format.specs.Count.{Appends};
 ghost use Rattle.parts.specs.Text.{expression};
 ghost use Rattle.parts.specs.Listed.{listed};
-ghost use Rattle.parts.specs.Reading.{Reading, MembersRead};
+ghost use Rattle.parts.specs.Reading.{Reading};
+ghost use Rattle.parts.specs.ListWalks.{MembersRead};
 ghost use Rattle.elements.specs.Mode.{modeWords, nowhere, place};
 ghost use Rattle.elements.specs.Members.{members};
 ghost use Rattle.elements.specs.Item.{flagOf, isTyped};
@@ -45,7 +46,7 @@ fn flag_mode(f: u8) -> Mode
 }
 
 fn append_two(a: u32, b: u32, out: &mut [u32], s: Done) -> Done
-    ensures { λ r. ⌜ Adds (a ∷ b ∷ []) 9 (now (out .entry)) s (now (out .exit)) r ⌝ }
+    ensures { λ r. ⌜ Appends (a ∷ b ∷ []) (now (out .entry)) s (now (out .exit)) r ⌝ }
 {
     let t = append_word(a, out, s);
     append_word(b, out, t)
@@ -53,7 +54,7 @@ fn append_two(a: u32, b: u32, out: &mut [u32], s: Done) -> Done
 
 // The mode word and the table flag.
 fn append_mode(m: Mode, out: &mut [u32], s: Done) -> Done
-    ensures { λ r. ⌜ Adds (modeWords .print m) 9 (now (out .entry)) s (now (out .exit)) r ⌝ }
+    ensures { λ r. ⌜ Appends (modeWords .print m) (now (out .entry)) s (now (out .exit)) r ⌝ }
 {
     match m {
         Mode::Active => append_two(2, 0, out, s),

@@ -18,12 +18,13 @@ ghost use mathlib.Core.Bool.{false, true};
 ghost use mathlib.Core.List.{List};
 ghost use Prim.Native.Nat.{ℕ, _≤_};
 ghost use lib.ListN.{length, drop};
-ghost use Rattle.format.specs.Count.{Adds, silent};
+ghost use Rattle.format.specs.Count.{Appends, silent};
 ghost use Rattle.format.specs.Walk.{Walks};
 ghost use Rattle.types.specs.Words.{refWords};
 ghost use Rattle.parts.specs.Text.{expression};
 ghost use Rattle.parts.specs.Listed.{listed};
-ghost use Rattle.parts.specs.Writing.{Writing, MembersWritten};
+ghost use Rattle.parts.specs.Writing.{Writing};
+ghost use Rattle.parts.specs.ListWalks.{MembersWritten};
 ghost use Rattle.elements.specs.Mode.{modeWords, modeRead, nowhere, place};
 ghost use Rattle.elements.specs.Segment.{elementsWordsOf, elementsWords};
 ghost use Rattle.elements.specs.Item.{flagOf};
@@ -110,7 +111,7 @@ fn is_said(other: bool, m: Mode) -> bool
 
 // The flag; 06 and table 0 for expressions without a table whose type has to be said.
 fn append_flag(other: bool, m: Mode, expressions: bool, out: &mut [u8], s: Done) -> Done
-    ensures { λ r. ⌜ Adds (headOf other m expressions) 9 (now (out .entry)) s (now (out .exit)) r ⌝ }
+    ensures { λ r. ⌜ Appends (headOf other m expressions) (now (out .entry)) s (now (out .exit)) r ⌝ }
 {
     if other {
         let t = append_byte(0x06, out, s);

@@ -12,7 +12,7 @@ use Rattle.format.specs.Write.{over, Writes, wrote, rest-lent, rest-back
 use Rattle.format.specs.declared.Written.{Written}
 use Rattle.format.specs.declared.Done.{Done}
 
--- 9 stands for no refusal
+-- stands for no refusal: it is above all that a text draws (3, 4, 5)
 abbrev pub noRefusal : ℕ
 noRefusal = 9
 
@@ -20,29 +20,36 @@ noRefusal = 9
 abbrev pub silent : {A : Type 0} → A → ℕ
 silent a = noRefusal
 
--- 65,537 stands for all that is more than 65,536
+-- no more is ever written; one more stands for all that is
+abbrev pub countMost : ℕ
+countMost = 65536
+
 abbrev pub counted : ℕ → ℕ
-counted n = min n 65537
+counted n = min n (countMost + 1)
+
+-- one number holds both: so many refusals there is room for below the count
+abbrev pub lowRoom : ℕ
+lowRoom = 16
 
 -- how much was appended, and the lowest refusal
 abbrev pub countIn : Done → ℕ
-countIn s = s .v / 16
+countIn s = s .v / lowRoom
 
 abbrev pub lowIn : Done → ℕ
-lowIn s = s .v % 16
+lowIn s = s .v % lowRoom
 
 abbrev pub grownBy : Done → ℕ → ℕ
-grownBy s k = 16 * counted (countIn s + k) + lowIn s
+grownBy s k = lowRoom * counted (countIn s + k) + lowIn s
 
 abbrev pub lowered : Done → ℕ → Done
-lowered s k = record { v = 16 * countIn s + min (lowIn s) k }
+lowered s k = record { v = lowRoom * countIn s + min (lowIn s) k }
 
--- p was appended to a buffer that held old and now holds out; l is the lowest refusal (9: none)
+-- p was appended to a buffer that held old and now holds out; l is the lowest refusal
 pub record Has (p : List ℕ) (l : ℕ) (old out : List ℕ) (s : Done) : Type 0 where
-  pub holds : s .v ≡ 16 * counted (length p) + l
-  pub small : l ≤ 9
+  pub holds : s .v ≡ lowRoom * counted (length p) + l
+  pub small : l ≤ noRefusal
   pub kept : length out ≡ length old
-  pub bytes : length p ≤ 65536 → length p ≤ length old → out ≡ over p old
+  pub bytes : length p ≤ countMost → length p ≤ length old → out ≡ over p old
 
 pub has-count : {p : List ℕ} {l : ℕ} {old out : List ℕ} {s : Done} → Has p l old out s → countIn s ≡ counted (length p)
 has-count h = omega (arith, h .holds, h .small)
@@ -53,6 +60,10 @@ has-lowest h = omega (arith, h .holds, h .small)
 -- q is appended, with the refusal m, whatever was appended before
 pub record Adds (q : List ℕ) (m : ℕ) (before : List ℕ) (s : Done) (after : List ℕ) (t : Done) : Type 0 where
   pub more : (p : List ℕ) (l : ℕ) (old : List ℕ) → Has p l old before s → Has (p ++ q) (min l m) old after t
+
+-- and no refusal is drawn
+abbrev pub Appends : List ℕ → List ℕ → Done → List ℕ → Done → Type 0
+Appends q = Adds q noRefusal
 
 pub has-eq : {p q : List ℕ} {l m : ℕ} {old out : List ℕ} {s : Done} → p ≡ q → l ≡ m → Has p l old out s → Has q m old out s
 has-eq {p} {q} {l} {m} {old} {out} {s} e f h = subst (λ (x : List ℕ). Has x m old out s) e (subst (λ (k : ℕ). Has p k old out s) f h)
@@ -65,11 +76,11 @@ min-assoc a b c = omega arith
 
 -- ---- one after the other
 
-pub adds-nil : (a : List ℕ) (s : Done) → Adds [] 9 a s a s
+pub adds-nil : (a : List ℕ) (s : Done) → Appends [] a s a s
 adds-nil a s = record { more = go }
   where
-    go : (p : List ℕ) (l : ℕ) (old : List ℕ) → Has p l old a s → Has (p ++ []) (min l 9) old a s
-    go p l old h = let i : l ≤ 9 = h .small in has-eq (sym (append-nil p)) (omega arith) h
+    go : (p : List ℕ) (l : ℕ) (old : List ℕ) → Has p l old a s → Has (p ++ []) (min l noRefusal) old a s
+    go p l old h = let i : l ≤ noRefusal = h .small in has-eq (sym (append-nil p)) (omega arith) h
 
 pub adds-seq : {p q : List ℕ} {l m : ℕ} {a b c : List ℕ} {s t u : Done} → Adds p l a s b t → Adds q m b t c u → Adds (p ++ q) (min l m) a s c u
 adds-seq {p} {q} {l} {m} {a} {b} {c} {s} {t} {u} x y =
@@ -86,21 +97,21 @@ adds-low {q} {m} {a} {s} {b} {t} k x = record { more = go }
 
 -- ---- the start, where nothing has been appended yet, and the end
 
-pub has-start : (old : List ℕ) (s : Done) (l : ℕ) → s .v ≡ l → l ≤ 9 → Has [] l old old s
+pub has-start : (old : List ℕ) (s : Done) (l : ℕ) → s .v ≡ l → l ≤ noRefusal → Has [] l old old s
 has-start old s l e h = record { holds = omega (arith, e); small = h; kept = refl; bytes = λ i k. refl }
 
-pub adds-fresh : {q : List ℕ} {m : ℕ} {old new : List ℕ} {s t : Done} → Adds q m old s new t → s .v ≡ 9 → m ≤ 9 → Has q m old new t
-adds-fresh {q} {m} {old} {new} {s} x e h = has-eq refl (omega arith) (x .more [] 9 old (has-start old s 9 e (omega arith)))
+pub adds-fresh : {q : List ℕ} {m : ℕ} {old new : List ℕ} {s t : Done} → Adds q m old s new t → s .v ≡ noRefusal → m ≤ noRefusal → Has q m old new t
+adds-fresh {q} {m} {old} {new} {s} x e h = has-eq refl (omega arith) (x .more [] noRefusal old (has-start old s noRefusal e (omega arith)))
 
 -- ---- a leaf: it is counted, and where all fits it leaves its bytes behind those before
 
 module _ (b out new : List ℕ) (s t : Done) (g : t .v ≡ grownBy s (length b)) (k : length new ≡ length out) where
   leaf-has : ((p old : List ℕ) → countIn s ≡ length p → length p + length b ≤ length out → length out ≡ length old → out ≡ over p old → new ≡ over (p ++ b) old)
-      → (p : List ℕ) (l : ℕ) (old : List ℕ) → Has p l old out s → Has (p ++ b) (min l 9) old new t
+      → (p : List ℕ) (l : ℕ) (old : List ℕ) → Has p l old out s → Has (p ++ b) (min l noRefusal) old new t
   leaf-has w p l old h =
       let c = has-count h in
       let e = has-lowest h in
-      let i : l ≤ 9 = h .small in
+      let i : l ≤ noRefusal = h .small in
       let o : length out ≡ length old = h .kept in
       let long : length (p ++ b) ≡ length p + length b = length-append p b in
       record {
@@ -111,7 +122,7 @@ module _ (b out new : List ℕ) (s t : Done) (g : t .v ≡ grownBy s (length b))
       }
 
   pub adds-leaf : ((p old : List ℕ) → countIn s ≡ length p → length p + length b ≤ length out → length out ≡ length old → out ≡ over p old → new ≡ over (p ++ b) old)
-      → Adds b 9 out s new t
+      → Appends b out s new t
   adds-leaf w = record { more = leaf-has w }
 
 -- b over what stands behind p
@@ -121,7 +132,7 @@ behind p b old = rw (drop-drop, length-append, append-assoc)
 -- a writer was lent the part from the current end on
 pub adds-part : (b out part : List ℕ) {r : Written} (s t : Done) (at : ℕ) → at ≡ min (countIn s) (length out) → t .v ≡ grownBy s (length b)
     → length part ≡ length (midOf at (length out - at) out) → Writes b (midOf at (length out - at) out) part r
-    → Adds b 9 out s (putMid at (length out - at) out part) t
+    → Appends b out s (putMid at (length out - at) out part) t
 adds-part b out part {r} s t at is g k w = adds-leaf b out (putMid at (length out - at) out part) s t g (same-len-mid at (length out - at) out part k) go
   where
     go : (p old : List ℕ) → countIn s ≡ length p → length p + length b ≤ length out → length out ≡ length old → out ≡ over p old
@@ -135,7 +146,7 @@ adds-part b out part {r} s t at is g k w = adds-leaf b out (putMid at (length ou
         rw (rest-back at out part (omega arith), front, wrote v fits .1, rest) (behind p b old)
 
 -- one number, by a store at the current end
-pub adds-set : (x : ℕ) (out : List ℕ) (s t : Done) → t .v ≡ grownBy s 1 → Adds (x ∷ []) 9 out s (set out (countIn s) x) t
+pub adds-set : (x : ℕ) (out : List ℕ) (s t : Done) → t .v ≡ grownBy s 1 → Appends (x ∷ []) out s (set out (countIn s) x) t
 adds-set x out s t g = adds-leaf (x ∷ []) out (set out (countIn s) x) s t g (length-set out (countIn s) x) go
   where
     go : (p old : List ℕ) → countIn s ≡ length p → length p + 1 ≤ length out → length out ≡ length old → out ≡ over p old → set out (countIn s) x ≡ over (p ++ (x ∷ [])) old
@@ -145,5 +156,5 @@ adds-set x out s t g = adds-leaf (x ∷ []) out (set out (countIn s) x) s t g (l
         rw (e, q, set-append-seam p (getD old (length p) 0) (drop (length p + 1) old) x, length-append p (x ∷ []), append-assoc p (x ∷ []) (drop (length p + 1) old))
 
 -- there is no room for it
-pub adds-past : (x : ℕ) (out : List ℕ) (s t : Done) → t .v ≡ grownBy s 1 → length out ≤ countIn s → Adds (x ∷ []) 9 out s out t
+pub adds-past : (x : ℕ) (out : List ℕ) (s t : Done) → t .v ≡ grownBy s 1 → length out ≤ countIn s → Appends (x ∷ []) out s out t
 adds-past x out s t g h = adds-leaf (x ∷ []) out out s t g refl (λ p old e r o d. absurd (omega arith))

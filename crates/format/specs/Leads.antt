@@ -12,6 +12,7 @@ use Rattle.format.specs.Format.{Format}
 use Rattle.format.specs.Basic.{Part, empty}
 use Rattle.format.specs.Alternatives.{Heads, is}
 use Rattle.format.specs.Answers.{neither}
+use Rattle.format.specs.Count.{silent}
 use Rattle.format.specs.Sequence.{Joins, joins-map}
 use Rattle.format.specs.Walk.{Walking}
 use Rattle.format.specs.declared.Done.{Done}
@@ -72,18 +73,18 @@ module _ {A B : Type 0} (L : Lead A) (G : Format B) where
 
 -- a walk over a lead: it is read, or missing, and what is written of it is appended
 abbrev pub LeadWalks : {A : Type 0} → Lead A → (A → List ℕ) → List ℕ → ℕ → List ℕ → Done → List ℕ → Walk → Type 0
-LeadWalks L f = Walking (L .parse) f (λ a. 9)
+LeadWalks L f = Walking (L .parse) f silent
 
 -- so a lead and what follows it are walked by walking the two, one behind the other
 module _ {A B : Type 0} (L : Lead A) (f : A → List ℕ) (G : Format B) (f′ : B → List ℕ) (h : Heads G (L .begins) false) where
-  pub led-joins : Joins (L .parse) f (λ a. 9) (G .parse) f′ (λ b. 9) (led L G h .parse) (λ p. f (p .0) ++ f′ (p .1)) (λ c. 9)
+  pub led-joins : Joins (L .parse) f silent (G .parse) f′ silent (led L G h .parse) (λ p. f (p .0) ++ f′ (p .1)) silent
   led-joins = record { ends = λ s a r e. (L .print a, L .only s a r e .1); join = λ a b. (a, b); reads = λ s. refl; writes = λ a b. refl; draws = λ a b. refl }
 
   -- and what is made of them
   pub led-made : {C : Type 0} (X : Format C) (f″ : C → List ℕ) (m : A × B → C) → ((s : List ℕ) → X .parse s ≡ map m (led L G h .parse s))
-      → ((a : A) (b : B) → f a ++ f′ b ≡ f″ (m (a, b))) → Joins (L .parse) f (λ a. 9) (G .parse) f′ (λ b. 9) (X .parse) f″ (λ c. 9)
+      → ((a : A) (b : B) → f a ++ f′ b ≡ f″ (m (a, b))) → Joins (L .parse) f silent (G .parse) f′ silent (X .parse) f″ silent
   led-made X f″ m e w =
-      joins-map (L .parse) f (λ a. 9) (G .parse) f′ (λ b. 9) (led L G h .parse) (λ p. f (p .0) ++ f′ (p .1)) (λ c. 9) (X .parse) f″ (λ c. 9) m e (λ p. w (p .0) (p .1)) (λ p. refl)
+      joins-map (L .parse) f silent (G .parse) f′ silent (led L G h .parse) (λ p. f (p .0) ++ f′ (p .1)) silent (X .parse) f″ silent m e (λ p. w (p .0) (p .1)) (λ p. refl)
       led-joins
 
 -- ---- none; k and a value, or another lead; and along a part

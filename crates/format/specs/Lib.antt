@@ -14,8 +14,9 @@ pub mod Read
 pub mod Count
 pub mod Walk
 pub mod Sequence
-pub mod Steps
+pub mod Dispatch
 pub mod Leads
 pub mod Told
 pub mod Loop
+pub mod Counted
 pub mod RoundTrip

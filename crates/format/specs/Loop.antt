@@ -4,13 +4,13 @@ use mathlib.Core.Path.{_≡_, refl, sym, _∙_, ap, subst}
 use mathlib.Core.List.{List, [], _∷_, _++_, append-nil, append-assoc}
 use Prim.Native.Nat.{ℕ, suc, _+_, _-_, _<_, _≤_, min}
 use native.Mathlib.Omega.{arith}
-use lib.ListN.{length, drop, length-append, length-drop}
+use lib.ListN.{length, drop, length-append}
 use Rattle.format.specs.Parsed.{Parsed, fail, got, bind, map}
 use Rattle.format.specs.Format.{Format}
-use Rattle.format.specs.Lists.{times, times-short, times-only, many, prints, prints-more}
-use Rattle.format.specs.Read.{place-at}
-use Rattle.format.specs.Count.{Adds, silent, adds-nil, adds-seq, adds-eq, min-assoc}
-use Rattle.format.specs.Walk.{Gone, Walked, Walking, Walks, no-walks, got-walks}
+use Rattle.format.specs.Lists.{times, prints, prints-more}
+use Rattle.format.specs.Read.{place-at, ends-at}
+use Rattle.format.specs.Count.{Adds, noRefusal, silent, adds-nil, adds-seq, adds-eq, min-assoc}
+use Rattle.format.specs.Walk.{Gone, Walked, Walking, not-found, gone}
 use Rattle.format.specs.declared.Done.{Done}
 use Rattle.format.specs.declared.Walk.{Walk}
 use Rattle.format.specs.declared.Walk.the-variants as walks
@@ -66,27 +66,17 @@ printsAt-plain long f q [] = refl
 printsAt-plain long f q (a ∷ xs) = ap (λ (r : List ℕ). f a ++ r) (printsAt-plain long f (q + length (long a)) xs)
 
 abbrev pub leastOf : {A : Type 0} → (A → ℕ) → List A → ℕ
-leastOf g [] = 9
+leastOf g [] = noRefusal
 leastOf g (a ∷ xs) = min (g a) (leastOf g xs)
 
 least-more : {A : Type 0} (g : A → ℕ) (xs : List A) (a : A) → leastOf g (xs ++ (a ∷ [])) ≡ min (leastOf g xs) (g a)
 least-more g [] a = swap (g a)
   where
-    swap : (x : ℕ) → min x 9 ≡ min 9 x
+    swap : (x : ℕ) → min x noRefusal ≡ min noRefusal x
     swap x = omega arith
 least-more g (x ∷ xs) a = ap (min (g x)) (least-more g xs a) ∙ sym (min-assoc (g x) (leastOf g xs) (g a))
 
 -- ---- the loop
-
--- a member takes as many numbers as it prints
-member-long : {A : Type 0} (F : Format A) (w : List ℕ) (p p′ : ℕ) (a : A) → F .parse (drop p w) ≡ got a (drop p′ w) → p ≤ length w → p′ ≤ length w
-    → p′ ≡ p + length (F .print a)
-member-long F w p p′ a e h h′ =
-    let s : drop p w ≡ F .print a ++ drop p′ w = F .only (drop p w) a (drop p′ w) e .1 in
-    let l : length (drop p w) ≡ length (F .print a) + length (drop p′ w) = ap length s ∙ length-append (F .print a) (drop p′ w) in
-    let m : length (drop p w) ≡ length w - p = length-drop p w in
-    let m′ : length (drop p′ w) ≡ length w - p′ = length-drop p′ w in
-    omega arith
 
 module _ {A : Type 0} (F : Format A) (f : ℕ → A → List ℕ) (g : A → ℕ) where
   -- n members from the place q on; `left` of them are left, from p on
@@ -109,7 +99,7 @@ module _ {A : Type 0} (F : Format A) (f : ℕ → A → List ℕ) (g : A → ℕ
     pub going-more : 0 < left → {new : List ℕ} {p′ : ℕ} {u : Done} → Gone F (f p) g w p out s new p′ u → length new ≡ length out → Going w q n out₀ s₀ new u p′ (left - 1)
     going-more l {new} {p′} {u} y e =
         let a = y .value in
-        let long = member-long F w p p′ a (y .read) (I .place) (y .place) in
+        let long = ends-at F w p p′ a (y .read) (I .place) (y .place) in
         let pq : p ≡ q + length (prints (F .print) (I .xs)) = I .at in
         let pl : length (prints (F .print) (I .xs) ++ F .print a) ≡ length (prints (F .print) (I .xs)) + length (F .print a) = length-append (prints (F .print) (I .xs)) (F .print a) in
         let pm : length (prints (F .print) (I .xs ++ (a ∷ []))) ≡ length (prints (F .print) (I .xs) ++ F .print a) = ap length (prints-more (F .print) (I .xs) a) in
@@ -151,79 +141,10 @@ module _ {A : Type 0} {F : Format A} {f : ℕ → A → List ℕ} {g : A → ℕ
   module _ {out : List ℕ} {s : Done} {p left : ℕ} (I : Going F f g w q n old s₀ out s p left) where
     pub loop-goes-on : {new : List ℕ} {r : Walk} {p′ : ℕ} {u : Done} → 0 < left → Walking (F .parse) (f p) g w p out s new r → r ≡ walks.Got p′ u → length new ≡ length out
         → Going F f g w q n old s₀ new u p′ (left - 1)
-    loop-goes-on {new} {r} {p′} {u} l h e k = going-more F f g I l (got-walks F (f p) g w p out s new r p′ u h e) k
+    loop-goes-on {new} {r} {p′} {u} l h e k = going-more F f g I l (gone F h e) k
 
     pub loop-stops : {new : List ℕ} {r : Walk} → 0 < left → Walking (F .parse) (f p) g w p out s new r → r ≡ walks.No → MembersAt F f g w q n old s₀ new walks.No
-    loop-stops {new} {r} l h e = record { walked = rw (going-stop F f g I l (no-walks F (f p) g w p out s new r h e)) refl }
+    loop-stops {new} {r} l h e = record { walked = rw (going-stop F f g I l (not-found h e)) refl }
 
     pub loop-done : left ≤ 0 → MembersAt F f g w q n old s₀ out (walks.Got p s)
     loop-done l = record { walked = rw (going-done F f g I l .0) (s, rw (place-at w p (I .place)), I .adds) }
-
--- ---- a count, and so many members
-
--- N reads the count, and c is written of it; X reads both, and f′ is written of the list
-pub record CountedList {A : Type 0} (N : List ℕ → Parsed ℕ) (c : ℕ → List ℕ) (F : Format A) (f : A → List ℕ) (X : List ℕ → Parsed (List A)) (f′ : List A → List ℕ) : Type 0 where
-  pub reads : (s : List ℕ) → X s ≡ bind (N s) (times (F .parse))
-  pub writes : (xs : List A) → c (length xs) ++ prints f xs ≡ f′ xs
-  pub long : (a : A) → F .Ok a → 0 < length (F .print a)
-
-least-none : {A : Type 0} (xs : List A) → leastOf (λ a. 9) xs ≡ 9
-least-none [] = refl
-least-none (a ∷ xs) = rw (least-none xs)
-
--- what was read and written of so many members, behind their count
-counted-walked : {A : Type 0} (c : ℕ → List ℕ) (F : Format A) (f : A → List ℕ) (f′ : List A → List ℕ) → ((xs : List A) → c (length xs) ++ prints f xs ≡ f′ xs) → (n : ℕ) (w : List ℕ) (p : ℕ)
-    {old : List ℕ} {s : Done} {cur : List ℕ} {t : Done} {new : List ℕ} {r : Walk} → Adds (c n) 9 old s cur t → Members F f w p n cur t new r
-    → Walked f′ silent w (times (F .parse) n (drop p w)) old s new r
-counted-walked {A} c F f f′ writes n w p {old} {s} {cur} {t} {new} {r} a m = go (times (F .parse) n (drop p w)) refl (m .walked)
-  where
-    go : (m : Parsed (List A)) → times (F .parse) n (drop p w) ≡ m → Walked (printsAt (F .print) (λ k a. f a) p) (leastOf silent) w m cur t new r → Walked f′ silent w m old s new r
-    go fail q k = k
-    go (got xs u) q k =
-        let l : n ≡ length xs = sym (times-only F n (drop p w) xs u q .0) in
-        let b : c n ++ printsAt (F .print) (λ k a. f a) p xs ≡ c (length xs) ++ prints f xs = rw (printsAt-plain (F .print) f p xs) (ap (λ (i : ℕ). c i ++ prints f xs) l) in
-        (k .0, k .1, adds-eq (b ∙ writes xs) (ap (min 9) (least-none xs)) (adds-seq a (k .2)))
-
-module _ {A : Type 0} {N : List ℕ → Parsed ℕ} {c : ℕ → List ℕ} {F : Format A} {f : A → List ℕ} {X : List ℕ → Parsed (List A)} {f′ : List A → List ℕ} (K : CountedList N c F f X f′) {w : List ℕ}
-    {at : ℕ} {old : List ℕ} {s : Done} {new : List ℕ} where
-  pub count-missing : N (drop at w) ≡ fail → Walking X f′ silent w at old s new walks.No
-  count-missing e = record { walked = rw (K .reads (drop at w), e) refl }
-
-  -- a count larger than what is left
-  pub count-large : (n p : ℕ) → N (drop at w) ≡ got n (drop p w) → length w - p < n → Walking X f′ silent w at old s new walks.No
-  count-large n p e h =
-      let l : length (drop p w) < n = omega (arith, length-drop p w) in
-      record { walked = rw (K .reads (drop at w), e, times-short F (K .long) n (drop p w) l) refl }
-
-  pub members-follow : {n p : ℕ} {cur : List ℕ} {t : Done} {r : Walk} → MembersAt F (λ k a. f a) silent w p n cur t new r → Adds (c n) 9 old s cur t → N (drop at w) ≡ got n (drop p w)
-      → Walking X f′ silent w at old s new r
-  members-follow {n} {p} m a e = record { walked = rw (K .reads (drop at w), e) (counted-walked c F f f′ (K .writes) n w p a m) }
-
-pub counted-list : {A : Type 0} (N : Format ℕ) (c : ℕ → List ℕ) (F : Format A) (f : A → List ℕ) → ((a : A) → F .Ok a → 0 < length (F .print a))
-    → CountedList (N .parse) c F f (many N F .parse) (λ xs. c (length xs) ++ prints f xs)
-counted-list N c F f long = record { reads = λ s. refl; writes = λ xs. refl; long = long }
-
--- ---- the same with every argument written, for proofs that cite facts by their place
-
-module _ {A : Type 0} (F : Format A) (f : A → List ℕ) where
-  module _ {w : List ℕ} {q n : ℕ} {old : List ℕ} {s₀ : Done} {out : List ℕ} {s : Done} {p left : ℕ} (I : Going F (λ k a. f a) (λ a. 9) w q n old s₀ out s p left) where
-    pub members-no : (new : List ℕ) → 0 < left → F .parse (drop p w) ≡ fail → Members F f w q n old s₀ new walks.No
-    members-no new l e = record { walked = rw (going-stop F (λ k a. f a) (λ a. 9) I l e) refl }
-
-    pub members-got : left ≤ 0 → Members F f w q n old s₀ out (walks.Got p s)
-    members-got l = loop-done I l
-
-  -- behind their count: N reads it, and c is what is written of it
-  module _ (N : Format ℕ) (c : ℕ → List ℕ) (w : List ℕ) (at : ℕ) (old : List ℕ) (s : Done) (new : List ℕ) where
-    abbrev pub Counted : Walk → Type 0
-    Counted r = Walks (many N F) (λ xs. c (length xs) ++ prints f xs) (λ xs. 9) w at old s new r
-
-    pub counted-no : N .parse (drop at w) ≡ fail → Counted walks.No
-    counted-no e = record { walked = rw e refl }
-
-    module _ (n p : ℕ) (e : N .parse (drop at w) ≡ got n (drop p w)) where
-      pub counted-short : ((a : A) → F .Ok a → 0 < length (F .print a)) → length (drop p w) < n → Counted walks.No
-      counted-short long h = record { walked = rw (e, times-short F long n (drop p w) h) refl }
-
-      pub counted-got : (cur : List ℕ) (t : Done) (r : Walk) → Adds (c n) 9 old s cur t → Members F f w p n cur t new r → Counted r
-      counted-got cur t r a k = record { walked = rw e (counted-walked c F f (λ xs. c (length xs) ++ prints f xs) (λ xs. refl) n w p a k) }

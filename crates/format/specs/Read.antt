@@ -9,7 +9,7 @@ use mathlib.Core.Bool.{cond}
 use lib.Dec.{eqb}
 use lib.ListN.{length, getD, take, drop, length-append, length-drop, take-append-drop, drop-of-length-le}
 use lib.Seq.{drop-cons, drop-append-seam}
-use Rattle.format.specs.Parsed.{Parsed, fail, got}
+use Rattle.format.specs.Parsed.{Parsed, fail, got, got-rest}
 use Rattle.format.specs.Format.{Format, refuses}
 
 -- ---- what stands from a place on
@@ -81,6 +81,10 @@ pub begins : {A : Type 0} (F : Format A) (s : List ℕ) (at : ℕ) (a : A) (t : 
 begins F s at a t k e =
     let l : length (drop at s) ≡ length (F .print a) + length t = ap length (F .only (drop at s) a t e .1) ∙ length-append (F .print a) t in
     omega (arith, length-drop at s)
+
+-- so it ends as many numbers behind where it began as it prints
+pub ends-at : {A : Type 0} (F : Format A) (s : List ℕ) (at p : ℕ) (a : A) → F .parse (drop at s) ≡ got a (drop p s) → at ≤ length s → p ≤ length s → p ≡ at + length (F .print a)
+ends-at F s at p a e h k = let on = read-on F s at a (drop p s) h e in same-place s k (on .1) (got-rest (sym e ∙ on .0))
 
 -- ---- answers
 

@@ -1,7 +1,7 @@
 -- One walk behind another: the whole reads as the first part and then the second do, and writes what they write. Assumes nothing.
-use mathlib.Core.Path.{_≡_, refl, sym, _∙_, ap, subst}
+use mathlib.Core.Path.{_≡_, refl, sym, _∙_, ap}
 use mathlib.Core.List.{List, _++_, append-assoc}
-use Prim.Native.Nat.{ℕ, _≤_, min}
+use Prim.Native.Nat.{ℕ, min}
 use native.Mathlib.Omega.{arith}
 use lib.ListN.{length, take, drop, length-append, take-append-drop}
 use lib.Seq.{drop-append-seam}
@@ -9,8 +9,8 @@ use Rattle.format.specs.Parsed.{Parsed, fail, got, bind, map, map-map}
 use Rattle.format.specs.Format.{Format}
 use Rattle.format.specs.Combine.{dep, pair}
 use Rattle.format.specs.Read.{placeOf}
-use Rattle.format.specs.Count.{Adds, adds-seq, adds-eq}
-use Rattle.format.specs.Walk.{Walked, Walking, Walks, walked-map}
+use Rattle.format.specs.Count.{silent}
+use Rattle.format.specs.Walk.{Walking, nothing-there, not-found, was-found, walks-as}
 use Rattle.format.specs.declared.Done.{Done}
 use Rattle.format.specs.declared.Walk.{Walk}
 use Rattle.format.specs.declared.Walk.the-variants as walks
@@ -41,35 +41,18 @@ module _ {A B C : Type 0} (P : List ℕ → Parsed A) (f : A → List ℕ) (g : 
     pub writes : (a : A) (b : B) → f a ++ f′ b ≡ f″ (join a b)
     pub draws : (a : A) (b : B) → min (g a) (g′ b) ≡ g″ (join a b)
 
-  module _ (J : Joins) (w : List ℕ) (at : ℕ) (old : List ℕ) (s : Done) (cur : List ℕ) (r : Walk) (h : Walking P f g w at old s cur r) where
-    abbrev whole : Parsed A → Parsed C
-    whole m = bind m (λ a t. map (J .join a) (Q t))
+module _ {A B C : Type 0} {P : List ℕ → Parsed A} {f : A → List ℕ} {g : A → ℕ} {Q : List ℕ → Parsed B} {f′ : B → List ℕ} {g′ : B → ℕ} {X : List ℕ → Parsed C} {f″ : C → List ℕ} {g″ : C → ℕ}
+    (J : Joins P f g Q f′ g′ X f″ g″) {w : List ℕ} {at : ℕ} {old : List ℕ} {s : Done} {new : List ℕ} {r : Walk} where
+  -- where the first part is missing, so is the whole
+  pub first-missing : Walking P f g w at old s new r → r ≡ walks.No → Walking X f″ g″ w at old s new walks.No
+  first-missing h e = nothing-there (rw (J .reads (drop at w), not-found h e))
 
-    -- where the first part is missing, so is the whole
-    pub joins-no : (new : List ℕ) → r ≡ walks.No → Walking X f″ g″ w at old s new walks.No
-    joins-no new e = record { walked = subst (λ (m : Parsed C). Walked f″ g″ w m old s new walks.No) (sym (J .reads (drop at w))) (go (P (drop at w)) (h .walked)) }
-      where
-        go : (m : Parsed A) → Walked f g w m old s cur r → Walked f″ g″ w (whole m) old s new walks.No
-        go fail k = refl
-        go (got a t) k = let z : _≡_ {A = ℕ} 0 1 = cc (k .1) in absurd (omega arith)
-
-    -- else a walk over the second part, from where the first one ended, is one over the whole
-    pub joins-got : (new : List ℕ) (p : ℕ) (u : Done) (r′ : Walk) → r ≡ walks.Got p u → Walking Q f′ g′ w p cur u new r′ → Walking X f″ g″ w at old s new r′
-    joins-got new p u r′ e k = record { walked = subst (λ (m : Parsed C). Walked f″ g″ w m old s new r′) (sym (J .reads (drop at w))) (go (P (drop at w)) refl (h .walked)) }
-      where
-        second : (a : A) (v : Done) (m : Parsed B) → Adds (f a) (g a) old s cur v → Walked f′ g′ w m cur v new r′ → Walked f″ g″ w (map (J .join a) m) old s new r′
-        second a v fail x y = y
-        second a v (got b t) x y = (y .0, y .1, adds-eq (J .writes a b) (J .draws a b) (adds-seq x (y .2)))
-
-        go : (m : Parsed A) → P (drop at w) ≡ m → Walked f g w m old s cur r → Walked f″ g″ w (whole m) old s new r′
-        go fail q x = let z : _≡_ {A = ℕ} 0 1 = cc in absurd (omega arith)
-        go (got a t) q x =
-            let is : walks.Got (placeOf w t) (x .0) ≡ walks.Got p u = sym (x .1) ∙ e in
-            let pe : p ≡ placeOf w t = cc in
-            let ue : u ≡ x .0 = cc in
-            let t′ : drop p w ≡ t = ap (λ (n : ℕ). drop n w) pe ∙ sym (left-at P (J .ends) w at a t q) in
-            second a (x .0) (Q t) (x .2)
-            (subst (λ (l : List ℕ). Walked f′ g′ w (Q l) cur (x .0) new r′) t′ (subst (λ (v : Done). Walked f′ g′ w (Q (drop p w)) cur v new r′) ue (k .walked)))
+  -- else a walk over the second part, from where the first one ended, is one over the whole
+  pub second-follows : {cur : List ℕ} {p : ℕ} {u : Done} {r′ : Walk} → Walking P f g w at old s cur r → r ≡ walks.Got p u → Walking Q f′ g′ w p cur u new r′ → Walking X f″ g″ w at old s new r′
+  second-follows {p = p} h e k =
+      let q = was-found h e in
+      let t : q .rest ≡ drop p w = left-at P (J .ends) w at (q .value) (q .rest) (q .is) ∙ ap (λ (n : ℕ). drop n w) (q .place) in
+      walks-as (J .join (q .value)) (J .reads (drop at w) ∙ rw (q .is, t)) (J .writes (q .value)) (J .draws (q .value)) (q .adds) k
 
 -- the value as something else
 pub joins-map : {A B C D : Type 0} (P : List ℕ → Parsed A) (f : A → List ℕ) (g : A → ℕ) (Q : List ℕ → Parsed B) (f′ : B → List ℕ) (g′ : B → ℕ) (X : List ℕ → Parsed C)
@@ -102,16 +85,16 @@ pair-plain {A} {B} F G s = go (F .parse s)
 
 -- one with no refusals; and what is made of one: what most types are
 module _ {A B : Type 0} (F : Format A) (f : A → List ℕ) (G : Format B) (f′ : B → List ℕ) where
-  pub pair-joins : Joins (F .parse) f (λ a. 9) (G .parse) f′ (λ b. 9) (pair F G .parse) (λ p. f (p .0) ++ f′ (p .1)) (λ c. 9)
+  pub pair-joins : Joins (F .parse) f silent (G .parse) f′ silent (pair F G .parse) (λ p. f (p .0) ++ f′ (p .1)) silent
   pair-joins = record { ends = leaves F; join = λ a b. (a, b); reads = pair-plain F G; writes = λ a b. refl; draws = λ a b. refl }
 
   pub joins : {C : Type 0} (X : Format C) (f″ : C → List ℕ) (h : A × B → C) → ((s : List ℕ) → X .parse s ≡ map h (pair F G .parse s))
-      → ((a : A) (b : B) → f a ++ f′ b ≡ f″ (h (a, b))) → Joins (F .parse) f (λ a. 9) (G .parse) f′ (λ b. 9) (X .parse) f″ (λ c. 9)
+      → ((a : A) (b : B) → f a ++ f′ b ≡ f″ (h (a, b))) → Joins (F .parse) f silent (G .parse) f′ silent (X .parse) f″ silent
   joins X f″ h e w =
-      joins-map (F .parse) f (λ a. 9) (G .parse) f′ (λ b. 9) (pair F G .parse) (λ p. f (p .0) ++ f′ (p .1)) (λ c. 9) (X .parse) f″ (λ c. 9) h e (λ p. w (p .0) (p .1)) (λ p. refl)
+      joins-map (F .parse) f silent (G .parse) f′ silent (pair F G .parse) (λ p. f (p .0) ++ f′ (p .1)) silent (X .parse) f″ silent h e (λ p. w (p .0) (p .1)) (λ p. refl)
       pair-joins
 
--- a value that is there, and one whose format depends on it: pre was appended of the first, and a walk over the second is one over both
+-- a value that is there, and one whose format depends on it
 module _ {A : Type 0} {B : A → Type 0} (F : Format A) (G : (a : A) → Format (B a)) where
   pub dep-known : (a : A) (s r : List ℕ) → F .parse s ≡ got a r → dep F G .parse s ≡ map {B = (a : A) × B a} (λ b. (a, b)) (G a .parse r)
   dep-known a s r e = rw e (go (G a .parse r))
@@ -119,13 +102,3 @@ module _ {A : Type 0} {B : A → Type 0} (F : Format A) (G : (a : A) → Format 
       go : (m : Parsed (B a)) → bind {B = (a : A) × B a} m (λ b t. got (a, b) t) ≡ map {B = (a : A) × B a} (λ b. (a, b)) m
       go fail = refl
       go (got b t) = refl
-
-  pub walks-known : (f : (a : A) × B a → List ℕ) (a : A) (g : B a → List ℕ) (pre : List ℕ) (w : List ℕ) (at p : ℕ) (old : List ℕ) (s : Done) (cur : List ℕ) (t : Done)
-      (new : List ℕ) (r : Walk) → F .parse (drop at w) ≡ got a (drop p w)
-      → ((b : B a) (q : List ℕ) → G a .parse (drop p w) ≡ got b q → pre ++ g b ≡ f (a, b)) → Adds pre 9 old s cur t → Walks (G a) g (λ b. 9) w p cur t new r
-      → Walks (dep F G) f (λ q. 9) w at old s new r
-  walks-known f a g pre w at p old s cur t new r e ef x y =
-      record {
-        walked = subst (λ (m : Parsed ((a : A) × B a)). Walked f (λ q. 9) w m old s new r) (sym (dep-known a (drop at w) (drop p w) e))
-            (walked-map g (λ b. 9) f (λ q. 9) (λ b. (a, b)) pre 9 w (G a .parse (drop p w)) old s cur t new r ef (λ b. refl) x (y .walked));
-      }

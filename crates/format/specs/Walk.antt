@@ -1,12 +1,13 @@
--- A walk: it reads a value by a format at a place and appends what is to be written of it. Assumes nothing.
+-- A walk: it reads a value at a place and appends what is to be written of it. Its laws leave out all that `search` finds, so that an answer names the law and no
+-- place. Assumes nothing.
 use mathlib.Core.Path.{_≡_, refl, sym, _∙_, ap, subst}
-use mathlib.Core.List.{List, _++_}
+use mathlib.Core.List.{List, [], _++_}
 use Prim.Native.Nat.{ℕ, _≤_, min}
 use native.Mathlib.Omega.{arith}
 use lib.ListN.{length, drop}
 use Rattle.format.specs.Parsed.{Parsed, fail, got, map}
 use Rattle.format.specs.Format.{Format}
-use Rattle.format.specs.Read.{placeOf, place-at, rest-at}
+use Rattle.format.specs.Read.{placeOf, place-at, rest-at, drop-end}
 use Rattle.format.specs.Count.{Adds, adds-seq, adds-eq}
 use Rattle.format.specs.declared.Done.{Done}
 use Rattle.format.specs.declared.Walk.{Walk}
@@ -17,88 +18,85 @@ abbrev pub Walked : {A : Type 0} → (A → List ℕ) → (A → ℕ) → List �
 Walked f g w fail old s new r = r ≡ walks.No
 Walked f g w (got a t) old s new r = (u : Done) × (r ≡ walks.Got (placeOf w t) u) × Adds (f a) (g a) old s new u
 
--- a walk of what P reads at a place: a record, so that `search` finds it among what is known and its laws leave their arguments out
+-- a walk of what P reads at a place: a record, so that `search` finds it among what is known. P is a reader, since not all that is walked is a format
 pub record Walking {A : Type 0} (P : List ℕ → Parsed A) (f : A → List ℕ) (g : A → ℕ) (w : List ℕ) (at : ℕ) (old : List ℕ) (s : Done) (new : List ℕ) (r : Walk) : Type 0 where
   pub walked : Walked f g w (P (drop at w)) old s new r
 
 abbrev pub Walks : {A : Type 0} → Format A → (A → List ℕ) → (A → ℕ) → List ℕ → ℕ → List ℕ → Done → List ℕ → Walk → Type 0
 Walks W = Walking (W .parse)
 
--- what an answer tells
-module _ {A : Type 0} (f : A → List ℕ) (g : A → ℕ) (w old : List ℕ) (s : Done) (new : List ℕ) (r : Walk) where
-  pub walked-no : (m : Parsed A) → Walked f g w m old s new r → r ≡ walks.No → m ≡ fail
-  walked-no fail h e = refl
-  walked-no (got a t) h e = let z : _≡_ {A = ℕ} 0 1 = cc (h .1) in absurd (omega arith)
+-- ---- a walk with no other in it: nothing of the kind is there, nothing at all is left, or a value is there
 
-  pub record Found (m : Parsed A) (p : ℕ) (u : Done) : Type 0 where
-    pub value : A
-    pub rest : List ℕ
-    pub is : m ≡ got value rest
-    pub place : placeOf w rest ≡ p
-    pub adds : Adds (f value) (g value) old s new u
+module _ {A : Type 0} {P : List ℕ → Parsed A} {f : A → List ℕ} {g : A → ℕ} {w : List ℕ} {at : ℕ} {old : List ℕ} {s : Done} {new : List ℕ} where
+  pub nothing-there : P (drop at w) ≡ fail → Walking P f g w at old s new walks.No
+  nothing-there e = record { walked = rw e refl }
 
-  pub walked-got : (m : Parsed A) (p : ℕ) (u : Done) → Walked f g w m old s new r → r ≡ walks.Got p u → Found m p u
-  walked-got fail p u h e = let z : _≡_ {A = ℕ} 0 1 = cc in absurd (omega arith)
-  walked-got (got a t) p u h e =
-      let x : walks.Got (placeOf w t) (h .0) ≡ walks.Got p u = sym (h .1) ∙ e in
-      let pe : placeOf w t ≡ p = cc in
-      let ue : h .0 ≡ u = cc in
-      record { value = a; rest = t; is = refl; place = pe; adds = subst (λ (v : Done). Adds (f a) (g a) old s new v) ue (h .2) }
+  pub nothing-left : length w ≤ at → P [] ≡ fail → Walking P f g w at old s new walks.No
+  nothing-left h e = nothing-there (ap P (drop-end w at h) ∙ e)
 
--- how a walk meets its contract: nothing was found, or a value was
-module _ {A : Type 0} (f : A → List ℕ) (g : A → ℕ) (w : List ℕ) (m : Parsed A) (old : List ℕ) (s : Done) (new : List ℕ) where
-  pub walked-none : m ≡ fail → Walked f g w m old s new walks.No
-  walked-none e = rw e refl
+  pub value-there : {a : A} {p : ℕ} {u : Done} → Adds (f a) (g a) old s new u → P (drop at w) ≡ got a (drop p w) → p ≤ length w → Walking P f g w at old s new (walks.Got p u)
+  value-there {a} {p} {u} d e h = record { walked = rw e (u, rw (place-at w p h), d) }
 
-  pub walked-is : (a : A) (p : ℕ) (u : Done) → m ≡ got a (drop p w) → p ≤ length w → Adds (f a) (g a) old s new u → Walked f g w m old s new (walks.Got p u)
-  walked-is a p u e h d = rw e (u, rw (place-at w p h), d)
+-- ---- what its answer tells
 
-module _ {A : Type 0} (W : Format A) (f : A → List ℕ) (g : A → ℕ) (w : List ℕ) (at : ℕ) (old : List ℕ) (s : Done) (new : List ℕ) where
-  pub walks-no : W .parse (drop at w) ≡ fail → Walks W f g w at old s new walks.No
-  walks-no e = record { walked = walked-none f g w (W .parse (drop at w)) old s new e }
+-- a value was found, and what is left stands at p
+pub record Found {A : Type 0} (P : List ℕ → Parsed A) (f : A → List ℕ) (g : A → ℕ) (w : List ℕ) (at : ℕ) (old : List ℕ) (s : Done) (new : List ℕ) (p : ℕ) (u : Done) : Type 0 where
+  pub value : A
+  pub rest : List ℕ
+  pub is : P (drop at w) ≡ got value rest
+  pub place : placeOf w rest ≡ p
+  pub adds : Adds (f value) (g value) old s new u
 
-  pub walks-got : (a : A) (p : ℕ) (u : Done) → W .parse (drop at w) ≡ got a (drop p w) → p ≤ length w → Adds (f a) (g a) old s new u → Walks W f g w at old s new (walks.Got p u)
-  walks-got a p u e h d = record { walked = walked-is f g w (W .parse (drop at w)) old s new a p u e h d }
+module _ {A : Type 0} {P : List ℕ → Parsed A} {f : A → List ℕ} {g : A → ℕ} {w : List ℕ} {at : ℕ} {old : List ℕ} {s : Done} {new : List ℕ} {r : Walk} (h : Walking P f g w at old s new r) where
+  pub not-found : r ≡ walks.No → P (drop at w) ≡ fail
+  not-found e = go (P (drop at w)) (h .walked)
+    where
+      go : (m : Parsed A) → Walked f g w m old s new r → m ≡ fail
+      go fail k = refl
+      go (got a t) k = let z : _≡_ {A = ℕ} 0 1 = cc (k .1) in absurd (omega arith)
 
-  pub no-walks : (r : Walk) → Walks W f g w at old s new r → r ≡ walks.No → W .parse (drop at w) ≡ fail
-  no-walks r h e = walked-no f g w old s new r (W .parse (drop at w)) (h .walked) e
+  pub was-found : {p : ℕ} {u : Done} → r ≡ walks.Got p u → Found P f g w at old s new p u
+  was-found {p} {u} e = go (P (drop at w)) refl (h .walked)
+    where
+      go : (m : Parsed A) → P (drop at w) ≡ m → Walked f g w m old s new r → Found P f g w at old s new p u
+      go fail q k = let z : _≡_ {A = ℕ} 0 1 = cc in absurd (omega arith)
+      go (got a t) q k =
+          let x : walks.Got (placeOf w t) (k .0) ≡ walks.Got p u = sym (k .1) ∙ e in
+          let pe : placeOf w t ≡ p = cc in
+          let ue : k .0 ≡ u = cc in
+          record { value = a; rest = t; is = q; place = pe; adds = subst (λ (v : Done). Adds (f a) (g a) old s new v) ue (k .2) }
 
-  pub record Gone (p : ℕ) (u : Done) : Type 0 where
-    pub value : A
-    pub read : W .parse (drop at w) ≡ got value (drop p w)
-    pub place : p ≤ length w
-    pub adds : Adds (f value) (g value) old s new u
+-- by a format: what is left is what stands from p on
+pub record Gone {A : Type 0} (W : Format A) (f : A → List ℕ) (g : A → ℕ) (w : List ℕ) (at : ℕ) (old : List ℕ) (s : Done) (new : List ℕ) (p : ℕ) (u : Done) : Type 0 where
+  pub value : A
+  pub read : W .parse (drop at w) ≡ got value (drop p w)
+  pub place : p ≤ length w
+  pub adds : Adds (f value) (g value) old s new u
 
-  pub got-walks : (r : Walk) (p : ℕ) (u : Done) → Walks W f g w at old s new r → r ≡ walks.Got p u → Gone p u
-  got-walks r p u h e =
-      let q = walked-got f g w old s new r (W .parse (drop at w)) p u (h .walked) e in
-      let ra = rest-at W w at (q .value) (q .rest) (q .is) in
-      record {
-        value = q .value;
-        read = q .is ∙ ap (λ (l : List ℕ). got (q .value) l) (ra .0) ∙ ap (λ (k : ℕ). got (q .value) (drop k w)) (q .place);
-        place = subst (λ (k : ℕ). k ≤ length w) (q .place) (ra .1);
-        adds = q .adds;
-      }
+pub gone : {A : Type 0} (W : Format A) {f : A → List ℕ} {g : A → ℕ} {w : List ℕ} {at : ℕ} {old : List ℕ} {s : Done} {new : List ℕ} {r : Walk} {p : ℕ} {u : Done} → Walks W f g w at old s new r
+    → r ≡ walks.Got p u → Gone W f g w at old s new p u
+gone W {w = w} {at} h e =
+    let q = was-found h e in
+    let ra = rest-at W w at (q .value) (q .rest) (q .is) in
+    record {
+      value = q .value;
+      read = q .is ∙ ap (λ (l : List ℕ). got (q .value) l) (ra .0) ∙ ap (λ (k : ℕ). got (q .value) (drop k w)) (q .place);
+      place = subst (λ (k : ℕ). k ≤ length w) (q .place) (ra .1);
+      adds = q .adds;
+    }
 
--- what a walk found, as something else, behind what was appended before it
-pub walked-map : {A B : Type 0} (f : A → List ℕ) (g : A → ℕ) (f′ : B → List ℕ) (g′ : B → ℕ) (h : A → B) (pre : List ℕ) (l : ℕ) (w : List ℕ) (m : Parsed A)
-    (old : List ℕ) (s : Done) (cur : List ℕ) (t : Done) (new : List ℕ) (r : Walk)
-    → ((a : A) (q : List ℕ) → m ≡ got a q → pre ++ f a ≡ f′ (h a)) → ((a : A) → min l (g a) ≡ g′ (h a))
-    → Adds pre l old s cur t → Walked f g w m cur t new r → Walked f′ g′ w (map h m) old s new r
-walked-map f g f′ g′ h pre l w fail old s cur t new r ef eg a x = x
-walked-map f g f′ g′ h pre l w (got v q) old s cur t new r ef eg a x = (x .0, x .1, adds-eq (ef v q refl) (eg v) (adds-seq a (x .2)))
+-- ---- a walk that is one of something else: pre was appended, and what Q reads from p on is, by another name, what X reads from `at` on
 
-pub walked-as : {A B : Type 0} (f : A → List ℕ) (g : A → ℕ) (f′ : B → List ℕ) (g′ : B → ℕ) (h : A → B) (pre : List ℕ) (l : ℕ) (w : List ℕ) (m : Parsed A) (n : Parsed B)
-    (old : List ℕ) (s : Done) (cur : List ℕ) (t : Done) (new : List ℕ) (r : Walk) → n ≡ map h m
-    → ((a : A) (q : List ℕ) → m ≡ got a q → pre ++ f a ≡ f′ (h a)) → ((a : A) → min l (g a) ≡ g′ (h a))
-    → Adds pre l old s cur t → Walked f g w m cur t new r → Walked f′ g′ w n old s new r
-walked-as {A} {B} f g f′ g′ h pre l w m n old s cur t new r e ef eg a x =
-    subst (λ (k : Parsed B). Walked f′ g′ w k old s new r) (sym e) (walked-map f g f′ g′ h pre l w m old s cur t new r ef eg a x)
+module _ {A B : Type 0} (name : B → A) {Q : List ℕ → Parsed B} {f′ : B → List ℕ} {g′ : B → ℕ} {X : List ℕ → Parsed A} {f : A → List ℕ} {g : A → ℕ} {pre : List ℕ} {l : ℕ} {w : List ℕ} {p at : ℕ}
+    {old : List ℕ} {s : Done} {cur : List ℕ} {t : Done} {new : List ℕ} {r : Walk} (e : X (drop at w) ≡ map name (Q (drop p w))) where
+  -- what is written may depend on what was read
+  pub walks-read : ((b : B) (q : List ℕ) → Q (drop p w) ≡ got b q → pre ++ f′ b ≡ f (name b)) → ((b : B) → min l (g′ b) ≡ g (name b)) → Adds pre l old s cur t → Walking Q f′ g′ w p cur t new r
+      → Walking X f g w at old s new r
+  walks-read writes draws a x = record { walked = rw e (go (Q (drop p w)) refl (x .walked)) }
+    where
+      go : (m : Parsed B) → Q (drop p w) ≡ m → Walked f′ g′ w m cur t new r → Walked f g w (map name m) old s new r
+      go fail i k = k
+      go (got b q) i k = (k .0, k .1, adds-eq (writes b q i) (draws b) (adds-seq a (k .2)))
 
--- a walk whose first part is done already: pre was appended, and what is left is another walk's
-pub walks-tail : {A B : Type 0} (W : Format A) (f : A → List ℕ) (g : A → ℕ) (X : Format B) (f′ : B → List ℕ) (g′ : B → ℕ) (h : A → B) (pre : List ℕ) (l : ℕ) (w : List ℕ) (at at′ : ℕ)
-    (old : List ℕ) (s : Done) (cur : List ℕ) (t : Done) (new : List ℕ) (r : Walk)
-    → X .parse (drop at′ w) ≡ map h (W .parse (drop at w)) → ((a : A) → pre ++ f a ≡ f′ (h a)) → ((a : A) → min l (g a) ≡ g′ (h a))
-    → Adds pre l old s cur t → Walks W f g w at cur t new r → Walks X f′ g′ w at′ old s new r
-walks-tail W f g X f′ g′ h pre l w at at′ old s cur t new r e ef eg a x =
-    record { walked = walked-as f g f′ g′ h pre l w (W .parse (drop at w)) (X .parse (drop at′ w)) old s cur t new r e (λ v q p. ef v) eg a (x .walked) }
+  pub walks-as : ((b : B) → pre ++ f′ b ≡ f (name b)) → ((b : B) → min l (g′ b) ≡ g (name b)) → Adds pre l old s cur t → Walking Q f′ g′ w p cur t new r → Walking X f g w at old s new r
+  walks-as writes draws a x = walks-read (λ b q i. writes b) draws a x

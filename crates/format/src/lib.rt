@@ -3,7 +3,7 @@ ghost use mathlib.Core.Path.{_≡_};
 ghost use mathlib.Core.List.{[], _∷_};
 ghost use Prim.Native.Nat.{_+_, min};
 ghost use Rattle.format.specs.Write.{Writes};
-ghost use Rattle.format.specs.Count.{Adds, counted, countIn, lowIn, grownBy, lowered};
+ghost use Rattle.format.specs.Count.{Appends, counted, countIn, lowIn, grownBy, lowered};
 
 // What a writer answers: how many numbers it wrote at the front of what it was lent, or that they do not fit and nothing was written.
 pub enum Written {
@@ -117,7 +117,7 @@ pub fn lower(s: Done, k: u32) -> Done
 
 // Every appender writes what there is room for and answers as if there were room for all.
 pub fn append_byte(b: u8, out: &mut [u8], s: Done) -> Done
-    ensures { λ r. ⌜ Adds (b ∷ []) 9 (now (out .entry)) s (now (out .exit)) r ⌝ }
+    ensures { λ r. ⌜ Appends (b ∷ []) (now (out .entry)) s (now (out .exit)) r ⌝ }
 {
     let n = count(s);
     let t = grown(s, 1);
@@ -128,7 +128,7 @@ pub fn append_byte(b: u8, out: &mut [u8], s: Done) -> Done
 }
 
 pub fn append_word(w: u32, out: &mut [u32], s: Done) -> Done
-    ensures { λ r. ⌜ Adds (w ∷ []) 9 (now (out .entry)) s (now (out .exit)) r ⌝ }
+    ensures { λ r. ⌜ Appends (w ∷ []) (now (out .entry)) s (now (out .exit)) r ⌝ }
 {
     let n = count(s);
     let t = grown(s, 1);
@@ -139,7 +139,7 @@ pub fn append_word(w: u32, out: &mut [u32], s: Done) -> Done
 }
 
 pub fn append_run(b: &[u8], out: &mut [u8], s: Done) -> Done
-    ensures { λ r. ⌜ Adds (now (b .entry)) 9 (now (out .entry)) s (now (out .exit)) r ⌝ }
+    ensures { λ r. ⌜ Appends (now (b .entry)) (now (out .entry)) s (now (out .exit)) r ⌝ }
 {
     let at = least(count(s), out.len());
     copy(b, &mut out[at..]);
@@ -147,7 +147,7 @@ pub fn append_run(b: &[u8], out: &mut [u8], s: Done) -> Done
 }
 
 pub fn append_words(w: &[u32], out: &mut [u32], s: Done) -> Done
-    ensures { λ r. ⌜ Adds (now (w .entry)) 9 (now (out .entry)) s (now (out .exit)) r ⌝ }
+    ensures { λ r. ⌜ Appends (now (w .entry)) (now (out .entry)) s (now (out .exit)) r ⌝ }
 {
     let at = least(count(s), out.len());
     copy_words(w, &mut out[at..]);

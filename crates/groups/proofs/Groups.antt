@@ -1,66 +1,75 @@
 -- How the walks over groups are put together: by the first of their words, and of their bytes. Assumes nothing.
-use mathlib.Core.Path.{_≡_, refl, sym, ap, _∙_}
-use mathlib.Core.Logic.{inl, inr}
+use mathlib.Core.Path.{_≡_, refl}
+use mathlib.Core.Bool.{Bool, true, false}
 use mathlib.Core.List.{List, [], _∷_}
 use Prim.Native.Nat.{ℕ, _+_, _-_, _<_, _≤_}
 use native.Mathlib.Omega.{arith}
 use lib.ListN.{length, getD, drop}
 use borrow.Author.Tests.{ne-eqb}
-use Rattle.format.specs.Parsed.{map, map-map}
-use Rattle.format.specs.Count.{Adds, silent, adds-nil, adds-seq}
-use Rattle.format.specs.Loop.{CountedList, counted-list}
-use Rattle.format.specs.Read.{drop-more, drop-two, too-few}
-use Rattle.format.specs.Steps.{nothing-there, Opens}
-use Rattle.format.specs.Walk.{Walks, walks-tail}
+use Rattle.format.specs.Parsed.{map, map-same}
+use Rattle.format.specs.Basic.{tag, bit, flag}
+use Rattle.format.specs.Count.{Appends, silent, adds-nil}
+use Rattle.format.specs.Read.{drop-more, drop-two, one-read, none-read, too-few}
+use Rattle.format.specs.Told.{one-at}
+use Rattle.format.specs.Walk.{Walks, nothing-there, walks-as}
 use Rattle.format.specs.declared.Done.{Done}
 use Rattle.format.specs.declared.Walk.{Walk}
 use Rattle.format.specs.declared.Walk.the-variants as walks
-use Rattle.leb128.specs.Formats.{u32}
-use Rattle.leb128.specs.Leb.{uleb}
-use Rattle.texts.specs.Words.{word}
 use Rattle.subtypes.specs.SubType.{subWords, subBytes}
-use Rattle.groups.specs.RecGroup.{RecGroup, group, single, ofSide, manyWords, manyBytes, groupWords, groupBytes, sub-words-long, sub-bytes-long}
+use Rattle.subtypes.specs.Agree.{sub-agree}
+use Rattle.parts.specs.Listed.{listed}
+use Rattle.parts.specs.Chosen.{chosen-writing, chosen-reading}
+use Rattle.parts.specs.Reading.{Reading, textless-reads, behind-reads, words-before}
+use Rattle.parts.specs.Writing.{Writing, behind-writing}
+use Rattle.groups.specs.RecGroup.{RecGroup, subType, form, isGroup, groupBytes, typeSection}
 
-pub many-read : CountedList (u32 .parse) (λ n. n ∷ []) subBytes (subWords .print) (manyBytes .parse) (manyWords .print)
-many-read = counted-list u32 (λ n. n ∷ []) subBytes (subWords .print) sub-bytes-long
+-- ---- bytes: 4E tells a group
 
-pub many-walk : CountedList (word .parse) uleb subWords (subBytes .print) (manyWords .parse) (manyBytes .print)
-many-walk = counted-list word uleb subWords (subBytes .print) sub-words-long
+module _ {b : List ℕ} {at : ℕ} {old : List ℕ} {s : Done} {new : List ℕ} (h : at < length b) where
+  form-reads : (g : Bool) → isGroup (drop at b) ≡ g → {cur : List ℕ} {u : Done} {r : Walk} → Appends (bit g ∷ []) old s cur u → Reading (form g) b at cur u new r
+      → Reading typeSection b at old s new r
+  form-reads g e a x = chosen-reading flag (λ g. tt) form groupBytes (λ x. (λ h. h, λ h. h)) (λ x. refl) g (one-at isGroup (λ g. form g .bytes) g (drop at b) e) a x
 
-pub group-read : Opens 0x4E (1 ∷ []) (manyBytes .parse) (manyWords .print) silent (groupBytes .parse) (groupWords .print) silent
-group-read = record { name = group; reads = λ s. map-map ofSide inl (manyBytes .parse s); writes = λ xs. refl; draws = λ xs. refl }
+  pub group-reads : {cur : List ℕ} {u : Done} {r : Walk} → getD b at 0 ≡ 0x4E → Appends (1 ∷ []) old s cur u → Reading (listed subType) b (at + 1) cur u new r → Reading typeSection b at old s new r
+  group-reads {cur} {u} {r} e a x = form-reads true (rw (drop-more b at h, e)) a (behind-reads 0x4E (listed subType) b at cur u new r (rw (drop-more b at h, e)) x)
 
-pub group-walk : Opens 1 (0x4E ∷ []) (manyWords .parse) (manyBytes .print) silent (groupWords .parse) (groupBytes .print) silent
-group-walk = record { name = group; reads = λ s. map-map ofSide inl (manyWords .parse s); writes = λ xs. refl; draws = λ xs. refl }
+  pub single-reads : {o : List ℕ} {v : Done} {cur : List ℕ} {u : Done} {r : Walk} → (getD b at 0 ≡ 0x4E → ⊥) → Appends (0 ∷ []) old s o v → Appends (1 ∷ []) o v cur u
+      → Walks subBytes (subWords .print) silent b at cur u new r → Reading typeSection b at old s new r
+  single-reads n a c x =
+      form-reads false (rw (drop-more b at h, ne-eqb (getD b at 0) 0x4E n)) a
+      (words-before subType (form false) (1 ∷ []) (λ s. refl) (λ n y. refl) c (textless-reads subWords subBytes sub-agree x))
 
-group-long : (g : RecGroup) → groupWords .Ok g → 2 ≤ length (groupWords .print g)
-group-long (group xs) ok = omega arith
-group-long (single x) ok = omega arith
+-- ---- words: the group flag
 
-module _ {w : List ℕ} {at : ℕ} {old : List ℕ} {s : Done} {new : List ℕ} where
-  pub single-read : {mid cur : List ℕ} {t u : Done} {r : Walk} → at < length w → (getD w at 0 ≡ 0x4E → ⊥) → Adds (0 ∷ []) 9 old s mid t → Adds (1 ∷ []) 9 mid t cur u
-      → Walks subBytes (subWords .print) silent w at cur u new r → Walks groupBytes (groupWords .print) silent w at old s new r
-  single-read {mid} {cur} {t} {u} {r} h n a b x =
-      walks-tail subBytes (subWords .print) silent groupBytes (groupWords .print) silent single (0 ∷ 1 ∷ []) 9 w at at old s cur u new r
-      (ap (groupBytes .parse) (drop-more w at h) ∙ rw (ne-eqb (getD w at 0) 0x4E n) (map-map ofSide inr (subBytes .parse (getD w at 0 ∷ drop (at + 1) w)))
-      ∙ ap (λ (l : List ℕ). map single (subBytes .parse l)) (sym (drop-more w at h))) (λ x. refl) (λ x. refl) (adds-seq a b) x
+two : (g : RecGroup) → 2 ≤ length (typeSection .words .print g)
+two (true, xs) = omega arith
+two (false, x) = omega arith
 
-  pub group-empty : length w ≤ at → Walks groupWords (groupBytes .print) silent w at old s new walks.No
-  group-empty h = nothing-there (too-few groupWords 2 (omega arith) group-long w at (omega arith))
+module _ {w : List ℕ} {at : ℕ} {old : List ℕ} {s : Done} {new : List ℕ} (t : List ℕ) where
+  pub words-empty : length w ≤ at → Writing typeSection t w at old s new walks.No
+  words-empty h = record { writes = nothing-there (too-few (typeSection .words) 2 (omega arith) (λ g ok. two g) w at (omega arith)) }
 
   module _ (h : at < length w) where
-    pub group-short : length w - at < 2 → Walks groupWords (groupBytes .print) silent w at old s new walks.No
-    group-short l = nothing-there (too-few groupWords 2 (omega arith) group-long w at (omega arith))
+    pub one-left : length w - at < 2 → Writing typeSection t w at old s new walks.No
+    one-left l = record { writes = nothing-there (too-few (typeSection .words) 2 (omega arith) (λ g ok. two g) w at (omega arith)) }
+
+    form-writes : (g : Bool) → getD w at 0 ≡ bit g → {r : Walk} → Writing (form g) t w (at + 1) old s new r → Writing typeSection t w at old s new r
+    form-writes g e x = chosen-writing flag (λ g. tt) form groupBytes (λ x. (λ h. h, λ h. h)) (λ x. refl) g (one-read flag g (bit g) tt refl w at h e) x
+
+    pub group-writes : {cur : List ℕ} {u : Done} {r : Walk} → getD w at 0 ≡ 1 → Appends (0x4E ∷ []) old s cur u → ((t : List ℕ) → Writing (listed subType) t w (at + 1) cur u new r)
+        → Writing typeSection t w at old s new r
+    group-writes e a x = form-writes true e (behind-writing 0x4E (listed subType) a (x t))
 
     module _ (l : 2 ≤ length w - at) where
-      pub group-flag : (getD w at 0 ≡ 0 → ⊥) → (getD w at 0 ≡ 1 → ⊥) → Walks groupWords (groupBytes .print) silent w at old s new walks.No
-      group-flag z o = nothing-there (rw (drop-two w at (omega arith), ne-eqb (getD w at 0) 1 o, ne-eqb (getD w at 0) 0 z))
+      pub no-flag : (getD w at 0 ≡ 1 → ⊥) → (getD w at 0 ≡ 0 → ⊥) → Writing typeSection t w at old s new walks.No
+      no-flag o z = record { writes = nothing-there (rw (none-read flag bit (λ g. refl) w at h (elim [ false ↦ z | true ↦ o ]))) }
 
       module _ (e : getD w at 0 ≡ 0) where
-        pub single-count : (getD w (at + 1) 0 ≡ 1 → ⊥) → Walks groupWords (groupBytes .print) silent w at old s new walks.No
-        single-count n = nothing-there (rw (drop-two w at (omega arith), e, ne-eqb (getD w (at + 1) 0) 1 n))
+        pub single-count : (getD w (at + 1) 0 ≡ 1 → ⊥) → Writing typeSection t w at old s new walks.No
+        single-count n = record { writes = nothing-there (rw (drop-two w at (omega arith), e, ne-eqb (getD w (at + 1) 0) 1 n)) }
 
-        pub single-walk : {r : Walk} → getD w (at + 1) 0 ≡ 1 → Walks subWords (subBytes .print) silent w (at + 2) old s new r → Walks groupWords (groupBytes .print) silent w at old s new r
-        single-walk {r} f x =
-            walks-tail subWords (subBytes .print) silent groupWords (groupBytes .print) silent single [] 9 w (at + 2) at old s old s new r
-            (rw (drop-two w at (omega arith), e, f) (map-map ofSide inr (subWords .parse (drop (at + 2) w)))) (λ x. refl) (λ x. refl) (adds-nil old s) x
+        pub single-writes : {r : Walk} → getD w (at + 1) 0 ≡ 1 → Walks subWords (subBytes .print) silent w (at + 2) old s new r → Writing typeSection t w at old s new r
+        single-writes f x =
+            let q : at + 1 + 1 ≡ at + 2 = omega arith in
+            let p : tag 1 subWords .parse (drop (at + 1) w) ≡ map (λ y. y) (subWords .parse (drop (at + 2) w)) = rw (drop-more w (at + 1) (omega arith), f, q) (map-same (subWords .parse (drop (at + 2) w))) in
+            form-writes false e (record { writes = walks-as (λ y. y) p (λ y. refl) (λ y. refl) (adds-nil old s) x })

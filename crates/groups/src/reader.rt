@@ -7,11 +7,10 @@ use subtypes::read_sub;
 ghost use Prim.Native.Nat.{_≤_};
 ghost use lib.ListN.{length};
 ghost use Rattle.format.specs.Loop.{Members};
-ghost use Rattle.format.specs.Count.{silent};
-ghost use Rattle.format.specs.Walk.{Walks};
-ghost use Rattle.leb128.specs.Formats.{u32};
+ghost use Rattle.parts.specs.Listed.{listed};
+ghost use Rattle.parts.specs.Reading.{Reading};
 ghost use Rattle.subtypes.specs.SubType.{subWords, subBytes};
-ghost use Rattle.groups.specs.RecGroup.{manyWords, manyBytes, groupWords, groupBytes};
+ghost use Rattle.groups.specs.RecGroup.{subType, typeSection};
 
 // n subtypes.
 fn read_subs(n: usize, b: &[u8], at: usize, out: &mut [u32], s: Done) -> Walk
@@ -34,7 +33,7 @@ fn read_subs(n: usize, b: &[u8], at: usize, out: &mut [u32], s: Done) -> Walk
 
 // A count larger than what is left is answered at once, since each subtype takes a byte.
 fn read_many(b: &[u8], at: usize, out: &mut [u32], s: Done) -> Walk
-    ensures { λ r. ⌜ Walks manyBytes (manyWords .print) silent (now (b .entry)) at (now (out .entry)) s (now (out .exit)) r ⌝ }
+    ensures { λ r. ⌜ Reading (listed subType) (now (b .entry)) at (now (out .entry)) s (now (out .exit)) r ⌝ }
 {
     let ReadU32::Value(n, p) = numbers::decode_u32(b, at) else {
         return Walk::No;
@@ -48,7 +47,7 @@ fn read_many(b: &[u8], at: usize, out: &mut [u32], s: Done) -> Walk
 
 // Reads an item of the type section and appends the words of its record behind the 1.
 pub fn walk_bytes(b: &[u8], at: usize, out: &mut [u32], s: Done) -> Walk
-    ensures { λ r. ⌜ Walks groupBytes (groupWords .print) silent (now (b .entry)) at (now (out .entry)) s (now (out .exit)) r ⌝ }
+    ensures { λ r. ⌜ Reading typeSection (now (b .entry)) at (now (out .entry)) s (now (out .exit)) r ⌝ }
 {
     if b.len() <= at {
         return Walk::No;

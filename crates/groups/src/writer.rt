@@ -1,18 +1,17 @@
-// Writing types and groups of them: their words at a place, and their items.
+// Writing types and groups of them: their words at a place, and their items. They hold no texts, so that what is written is the same with any.
 use format::Done;
 use format::Walk;
 use format::append_byte;
 use numbers::append_u32;
 use subtypes::walk_sub;
-ghost use Prim.Native.Nat.{_≤_};
+ghost use mathlib.Core.List.{List};
+ghost use Prim.Native.Nat.{ℕ, _≤_};
 ghost use lib.ListN.{length};
 ghost use Rattle.format.specs.Loop.{Members};
-ghost use Rattle.format.specs.Count.{silent};
-ghost use Rattle.format.specs.Walk.{Walks};
-ghost use Rattle.leb128.specs.Formats.{u32};
-ghost use Rattle.texts.specs.Words.{word};
+ghost use Rattle.parts.specs.Listed.{listed};
+ghost use Rattle.parts.specs.Writing.{Writing};
 ghost use Rattle.subtypes.specs.SubType.{subWords, subBytes};
-ghost use Rattle.groups.specs.RecGroup.{manyWords, manyBytes, groupWords, groupBytes};
+ghost use Rattle.groups.specs.RecGroup.{subType, typeSection};
 
 // n subtypes.
 fn walk_subs(n: usize, words: &[u32], at: usize, out: &mut [u8], s: Done) -> Walk
@@ -35,7 +34,7 @@ fn walk_subs(n: usize, words: &[u32], at: usize, out: &mut [u8], s: Done) -> Wal
 
 // A count larger than what is left is answered at once, since each subtype takes a word.
 fn walk_many(words: &[u32], at: usize, out: &mut [u8], s: Done) -> Walk
-    ensures { λ r. ⌜ Walks manyWords (manyBytes .print) silent (now (words .entry)) at (now (out .entry)) s (now (out .exit)) r ⌝ }
+    ensures { λ r. ⌜ ((t : List ℕ) → Writing (listed subType) t (now (words .entry)) at (now (out .entry)) s (now (out .exit)) r) ⌝ }
 {
     if words.len() <= at {
         return Walk::No;
@@ -50,7 +49,7 @@ fn walk_many(words: &[u32], at: usize, out: &mut [u8], s: Done) -> Walk
 
 // Reads the words of a type behind its 1 and appends its item: a subtype alone, or a group.
 pub fn walk_words(words: &[u32], at: usize, out: &mut [u8], s: Done) -> Walk
-    ensures { λ r. ⌜ Walks groupWords (groupBytes .print) silent (now (words .entry)) at (now (out .entry)) s (now (out .exit)) r ⌝ }
+    ensures { λ r. ⌜ ((t : List ℕ) → Writing typeSection t (now (words .entry)) at (now (out .entry)) s (now (out .exit)) r) ⌝ }
 {
     if words.len() <= at {
         return Walk::No;

@@ -8,18 +8,15 @@ use mir.Syntax.{w8, w32}
 use mir.Val.{Fits}
 use Rattle.format.specs.Parsed.{map, map-map}
 use Rattle.format.specs.Format.{Format}
-use Rattle.format.specs.Combine.{dep}
-use Rattle.format.specs.Count.{Adds, silent}
+use Rattle.format.specs.Count.{Appends, silent}
 use Rattle.format.specs.Read.{one-read, none-read}
 use Rattle.format.specs.Sequence.{dep-known}
-use Rattle.format.specs.Steps.{nothing-left, nothing-there}
-use Rattle.format.specs.Walk.{Walks, walks-tail}
+use Rattle.format.specs.Walk.{Walks, nothing-left, nothing-there, walks-as}
 use Rattle.format.specs.declared.Done.{Done}
 use Rattle.format.specs.declared.Walk.{Walk}
 use Rattle.format.specs.declared.Walk.the-variants as walks
 use Rattle.parts.specs.Reading.{Reading, textless-reads}
-use Rattle.imports.specs.Entity.{Sort, function, ofTable, ofMemory, ofGlobal, ofTag, exact, sortOf, sort-small, sort, TypeOf, typeWords, typeBytes, entityTo, entityOf, entity-of, entityType, entityWords, entityBytes, entity-agree, entity}
-use Rattle.imports.specs.declared.EntityType.{EntityType}
+use Rattle.imports.specs.Entity.{Sort, function, ofTable, ofMemory, ofGlobal, ofTag, exact, sortOf, sort-small, sort, TypeOf, typeWords, typeBytes, entityOf, entity-of, entityType, entityWords, entityBytes, entity-agree, entity}
 
 -- F: how it is read; G: how it is written
 module _ (F G : (k : Sort) → Format (TypeOf k)) where
@@ -30,13 +27,13 @@ module _ (F G : (k : Sort) → Format (TypeOf k)) where
     entity-none : ((k : Sort) → getD w at 0 ≡ sortOf k → ⊥) → EntityWalks w at old s new walks.No
     entity-none n = nothing-there (rw (none-read sort sortOf (λ k. refl) w at h n))
 
-    entity-known : (k : Sort) {cur : List ℕ} {u : Done} {r : Walk} → getD w at 0 ≡ sortOf k → Adds (getD w at 0 ∷ []) 9 old s cur u → Walks (F k) (G k .print) silent w (at + 1) cur u new r
+    entity-known : (k : Sort) {cur : List ℕ} {u : Done} {r : Walk} → getD w at 0 ≡ sortOf k → Appends (getD w at 0 ∷ []) old s cur u → Walks (F k) (G k .print) silent w (at + 1) cur u new r
         → EntityWalks w at old s new r
-    entity-known k {cur} {u} {r} e a x =
-        walks-tail (F k) (G k .print) silent (entityType F) (entityType G .print) silent (entityOf k) (sortOf k ∷ []) 9 w (at + 1) at old s cur u new r
+    entity-known k {cur} {u} e a x =
+        walks-as (entityOf k)
         (ap (map (λ (p : (k : Sort) × TypeOf k). entityOf (p .0) (p .1))) (dep-known sort F k (drop at w) (drop (at + 1) w) (one-read sort k (sortOf k) tt refl w at h e))
         ∙ map-map (λ (p : (k : Sort) × TypeOf k). entityOf (p .0) (p .1)) (λ t. (k, t)) (F k .parse (drop (at + 1) w)))
-        (prints k) (λ t. refl) (subst (λ (n : ℕ). Adds (n ∷ []) 9 old s cur u) e a) x
+        (prints k) (λ t. refl) (subst (λ (n : ℕ). Appends (n ∷ []) old s cur u) e a) x
       where
         prints : (k : Sort) (t : TypeOf k) → sortOf k ∷ G k .print t ≡ entityType G .print (entityOf k t)
         prints k t = ap (λ (p : (k : Sort) × TypeOf k). sortOf (p .0) ∷ G (p .0) .print (p .1)) (sym (entity-of (k, t)))
@@ -49,7 +46,7 @@ byte-fits b at k = let h = k at .fits in record { fits = omega arith }
 
 -- one of the sorts
 module _ (k : Sort) {w : List ℕ} {at : ℕ} {old : List ℕ} {s : Done} {cur : List ℕ} {u : Done} {new : List ℕ} {r : Walk} (h : at < length w) (e : getD w at 0 ≡ sortOf k)
-    (a : Adds (getD w at 0 ∷ []) 9 old s cur u) where
+    (a : Appends (getD w at 0 ∷ []) old s cur u) where
   pub sort-reads : Walks (typeBytes k) (typeWords k .print) silent w (at + 1) cur u new r → Reading entity w at old s new r
   sort-reads x = textless-reads entityWords entityBytes entity-agree (entity-known typeBytes typeWords h k e a x)
 

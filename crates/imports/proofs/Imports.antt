@@ -11,11 +11,10 @@ use mir.Val.{Fits}
 use lib.ListN.{length, getD, drop, length-append, length-drop}
 use borrow.Author.Tests.{ne-eqb, eqb-true}
 use Rattle.format.specs.Parsed.{Parsed, fail, got, bind, map}
-use Rattle.format.specs.Count.{Adds, adds-seq}
+use Rattle.format.specs.Count.{Appends, silent, adds-seq}
 use Rattle.format.specs.Read.{drop-more, drop-end, drop-two, one-read, none-read}
 use Rattle.format.specs.Told.{one-at}
-use Rattle.format.specs.Steps.{nothing-left, nothing-there}
-use Rattle.format.specs.Walk.{Walked, no-walks, walked-as}
+use Rattle.format.specs.Walk.{nothing-left, nothing-there, not-found, Walks, walks-as}
 use Rattle.format.specs.Write.{fits-or}
 use Rattle.format.specs.declared.Done.{Done}
 use Rattle.format.specs.declared.Walk.{Walk}
@@ -30,7 +29,7 @@ use Rattle.texts.specs.declared.TextAt.the-variants.{At, No}
 use Rattle.parts.specs.Text.{name, nameBytes}
 use Rattle.parts.specs.Both.{both, behind}
 use Rattle.parts.specs.Listed.{listed}
-use Rattle.parts.specs.Writing.{Writing, itemOf, lowOf, part-follows}
+use Rattle.parts.specs.Writing.{Writing, part-follows}
 use Rattle.parts.specs.Chosen.{chosen-writing}
 use Rattle.parts.specs.Reading.{Reading, recordAt, two-reads}
 use Rattle.imports.specs.Entity.{entity}
@@ -73,8 +72,8 @@ module _ (b : List ℕ) (at : ℕ) where
 -- the module's name was walked, and then what the form has behind it
 pub form-writes : (f : Form) {t w : List ℕ} {at : ℕ} {old : List ℕ} {s : Done} {cur : List ℕ} {p : ℕ} {u : Done} {new : List ℕ} {r r′ : Walk} → at < length w → getD w at 0 ≡ formOf f
     → Writing name t w (at + 1) old s cur r → r ≡ walks.Got p u → Writing (rest f) t w p cur u new r′ → Writing importSection t w at old s new r′
-form-writes f {t} {w} {at} {old} {s} {new = new} {r′ = r′} h e x g y =
-    chosen-writing formWord (λ f. tt) form bytes (λ x. (λ h. h, λ h. h)) (λ x. refl) f t w at (at + 1) old s new r′ (one-read formWord f (formOf f) tt refl w at h e)
+form-writes f {w = w} {at} h e x g y =
+    chosen-writing formWord (λ f. tt) form bytes (λ x. (λ h. h, λ h. h)) (λ x. refl) f (one-read formWord f (formOf f) tt refl w at h e)
     (part-follows name (rest f) x g y)
 
 module _ {t w : List ℕ} {at : ℕ} {old : List ℕ} {s : Done} {new : List ℕ} where
@@ -87,10 +86,10 @@ module _ {t w : List ℕ} {at : ℕ} {old : List ℕ} {s : Done} {new : List ℕ
 
     -- whatever the form, no name follows
     pub no-name : {r : Walk} → Writing name t w (at + 1) old s new r → r ≡ walks.No → Writing importSection t w at old s new walks.No
-    no-name {r} x g = record { writes = nothing-there (go (formWord .parse (drop at w)) refl) }
+    no-name x g = record { writes = nothing-there (go (formWord .parse (drop at w)) refl) }
       where
         e : span .parse (drop (at + 1) w) ≡ fail
-        e = no-walks span (itemOf name t) (lowOf name t) w (at + 1) old s new r (x .writes) g
+        e = not-found (x .writes) g
 
         go : (m : Parsed Form) → formWord .parse (drop at w) ≡ m → words .parse (drop at w) ≡ fail
         go fail p = rw p
@@ -146,9 +145,9 @@ module _ (b : List ℕ) (at : ℕ) (old : List ℕ) (s : Done) (new : List ℕ) 
         let n = g .text in
         ap (λ (u : Span). u .start + u .len) (g .is) ∙ omega (arith, length-append (uleb (length n)) n)
 
-    form-reads : (f : Form) → f ≡ formAt (drop (v .start + v .len) b) → (cur : List ℕ) (u : Done) (r : Walk) → Adds (formOf f ∷ span .print v) 9 old s cur u
+    form-reads : (f : Form) → f ≡ formAt (drop (v .start + v .len) b) → (cur : List ℕ) (u : Done) (r : Walk) → Appends (formOf f ∷ span .print v) old s cur u
         → Reading (rest f) b (v .start + v .len) cur u new r → Reading importSection b at old s new r
-    form-reads f fe cur u r a x = record { reads = λ h. record { walked = go h } }
+    form-reads f fe cur u r a x = record { reads = go }
       where
         behind-name : (n : List ℕ) (m : Parsed (Rest f (List ℕ)))
             → map {B = Imports (List ℕ)} (λ (q : List ℕ × ((f : Form) × Rest f (List ℕ))). (q .1 .0, (q .0, q .1 .1))) (bind {B = List ℕ × ((f : Form) × Rest f (List ℕ))} (map {B = (f : Form) × Rest f (List ℕ)} (λ y. (f, y)) m) (λ y t. got (n, y) t))
@@ -162,7 +161,7 @@ module _ (b : List ℕ) (at : ℕ) (old : List ℕ) (s : Done) (new : List ℕ) 
             ap (λ (k : ℕ). formOf f ∷ (span .print v ++ recordAt (rest f) k y)) pe
             ∙ ap (λ (u : Span). formOf f ∷ (span .print u ++ recordAt (rest f) (at + length (nameBytes .print n)) y)) is
 
-        go : at ≤ length b → Walked (recordAt importSection at) (λ y. 9) b (bytes .parse (drop at b)) old s new r
+        go : at ≤ length b → Walks bytes (recordAt importSection at) silent b at old s new r
         go h =
             let g = stands nameBytes (sizedAt at) b at v h e in
             let n = g .text in
@@ -170,9 +169,9 @@ module _ (b : List ℕ) (at : ℕ) (old : List ℕ) (s : Done) (new : List ℕ) 
             let pe : p ≡ at + length (nameBytes .print n) = name-end h in
             let named : nameBytes .parse (drop at b) ≡ got n (drop p b) = g .parsed ∙ ap (λ (k : ℕ). got n (drop k b)) (sym pe) in
             let within : p ≤ length b = omega (arith, g .within) in
-            walked-as (recordAt (rest f) p) (λ y. 9) (recordAt importSection at) (λ y. 9) (λ y. (f, (n, y))) (formOf f ∷ span .print v) 9 b (rest f .bytes .parse (drop p b)) (bytes .parse (drop at b)) old s cur u new r
+            walks-as (λ y. (f, (n, y)))
             (rw (named, one-at formAt (λ f. rest f .bytes) f (drop p b) (sym fe)) (behind-name n (rest f .bytes .parse (drop p b))))
-            (λ y q i. prints n (g .is) pe y) (λ y. refl) a (x .reads within .walked)
+            (prints n (g .is) pe) (λ y. refl) a (x .reads within)
 
 -- ---- reading: what the code has found
 
@@ -187,15 +186,15 @@ module _ {b : List ℕ} {at : ℕ} {found : TextAt} (d : found ≡ textAt (sized
   no-module e = not-named b at old s new (sym d ∙ e)
 
   module _ {v : Span} (e : found ≡ At v) {f : Form} (g : f ≡ formAt (drop (v .start + v .len) b)) {cur : List ℕ} {u : Done} {r : Walk} where
-    pub single-reads : f ≡ Single → Adds (0 ∷ span .print v) 9 old s cur u → Reading (member Import) b (v .start + v .len) cur u new r → Reading importSection b at old s new r
+    pub single-reads : f ≡ Single → Appends (0 ∷ span .print v) old s cur u → Reading (member Import) b (v .start + v .len) cur u new r → Reading importSection b at old s new r
     single-reads k a x = form-reads b at old s new v (sym d ∙ e) Single (sym k ∙ g) cur u r a x
 
-    pub compact1-reads : f ≡ Compact1 → Adds (1 ∷ span .print v) 9 old s cur u → Reading (listed (member Import)) b (v .start + v .len + 2) cur u new r → Reading importSection b at old s new r
+    pub compact1-reads : f ≡ Compact1 → Appends (1 ∷ span .print v) old s cur u → Reading (listed (member Import)) b (v .start + v .len + 2) cur u new r → Reading importSection b at old s new r
     compact1-reads k a x =
         form-reads b at old s new v (sym d ∙ e) Compact1 (sym k ∙ g) cur u r a
         (compact-reads b (v .start + v .len) Compact1 one-not (sym k ∙ g) (listed (member Import)) cur u new r x)
 
-    pub compact2-reads : f ≡ Compact2 → Adds (2 ∷ span .print v) 9 old s cur u → Reading (both entity (listed (member Name))) b (v .start + v .len + 2) cur u new r
+    pub compact2-reads : f ≡ Compact2 → Appends (2 ∷ span .print v) old s cur u → Reading (both entity (listed (member Name))) b (v .start + v .len + 2) cur u new r
         → Reading importSection b at old s new r
     compact2-reads k a x =
         form-reads b at old s new v (sym d ∙ e) Compact2 (sym k ∙ g) cur u r a
@@ -210,6 +209,6 @@ module _ (b : List ℕ) (p : ℕ) (most : length b ≤ 65536) (f : Form) (g : f 
   behind-compact2 k = let h = compact-long b p Compact2 two-not (sym k ∙ g) in record { fits = omega arith }
 
 -- a form, and a span behind it
-pub head-added : {f : ℕ} {v : Span} {old : List ℕ} {s : Done} {cur : List ℕ} {t : Done} {new : List ℕ} {u : Done} → Adds (f ∷ []) 9 old s cur t → Adds (span .print v) 9 cur t new u
-    → Adds (f ∷ span .print v) 9 old s new u
+pub head-added : {f : ℕ} {v : Span} {old : List ℕ} {s : Done} {cur : List ℕ} {t : Done} {new : List ℕ} {u : Done} → Appends (f ∷ []) old s cur t → Appends (span .print v) cur t new u
+    → Appends (f ∷ span .print v) old s new u
 head-added a b = adds-seq a b

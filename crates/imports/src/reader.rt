@@ -19,11 +19,12 @@ ghost use mathlib.Core.Path.{_≡_};
 ghost use mathlib.Core.List.{_∷_};
 ghost use Prim.Native.Nat.{_≤_};
 ghost use lib.ListN.{length, drop};
-ghost use Rattle.format.specs.Count.{Adds};
+ghost use Rattle.format.specs.Count.{Appends};
 ghost use Rattle.texts.specs.Words.{span};
 ghost use Rattle.parts.specs.Both.{both};
 ghost use Rattle.parts.specs.Listed.{listed};
-ghost use Rattle.parts.specs.Reading.{Reading, MembersRead};
+ghost use Rattle.parts.specs.Reading.{Reading};
+ghost use Rattle.parts.specs.ListWalks.{MembersRead};
 ghost use Rattle.imports.specs.Entity.{entity};
 ghost use Rattle.imports.specs.Forms.{member};
 ghost use Rattle.imports.specs.declared.Member.the-variants.{Import, Name};
@@ -138,7 +139,7 @@ fn form_at(b: &[u8], at: usize) -> Form
 
 // The form, and the span of the module's name.
 fn append_head(form: u32, v: Span, out: &mut [u32], s: Done) -> Done
-    ensures { λ r. ⌜ Adds (form ∷ span .print v) 9 (now (out .entry)) s (now (out .exit)) r ⌝ }
+    ensures { λ r. ⌜ Appends (form ∷ span .print v) (now (out .entry)) s (now (out .exit)) r ⌝ }
 {
     let t = append_word(form, out, s);
     append_span(v, out, t)

@@ -1,59 +1,65 @@
 -- A walk over one section's records or items is one over all, where the first word or the id says so. Assumes nothing.
-use mathlib.Core.Path.{_≡_, refl, sym, ap, subst, _∙_}
-use mathlib.Core.Option.{Option, none, some}
-use mathlib.Core.List.{List, [], _∷_, _++_}
-use Prim.Native.Nat.{ℕ, _<_, _≤_}
+use mathlib.Core.Path.{_≡_, refl, ap, subst, _∙_}
+use mathlib.Core.Option.{Option}
+use mathlib.Core.List.{List, [], _∷_}
+use Prim.Native.Nat.{ℕ}
 use native.Mathlib.Omega.{arith}
 use lib.ListN.{length, getD, drop}
-use Rattle.format.specs.Parsed.{fail}
 use Rattle.format.specs.Basic.{find, find-none}
-use Rattle.format.specs.Count.{Adds, adds-nil}
+use Rattle.format.specs.Lists.{All}
+use Rattle.format.specs.Count.{Appends, silent, adds-nil}
 use Rattle.format.specs.Read.{drop-end, one-read, none-read}
 use Rattle.format.specs.Sequence.{dep-known}
-use Rattle.format.specs.Walk.{Walked, Walks, walked-as}
+use Rattle.format.specs.Walk.{Walking, Walks, nothing-there, walks-as}
 use Rattle.format.specs.declared.Done.{Done}
 use Rattle.format.specs.declared.Walk.{Walk}
+use Rattle.format.specs.declared.Walk.the-variants as walks
 use Rattle.frames.specs.Frames.{idOf}
 use Rattle.frames.specs.declared.SectionId.{SectionId}
 use Rattle.frames.specs.declared.SectionId.the-variants.{Types, Imports, Tables, Elements, Data}
-use Rattle.texts.specs.Text.{lowestOf, lowest-small}
-use Rattle.texts.specs.declared.Span.{Span}
-use Rattle.items.specs.Record.{Body, section, ids, id-full, idWord, words, textsOf, itemOf, lowOf, recordOf, itemsOf, beginsIn}
+use Rattle.parts.specs.Reading.{Reading}
+use Rattle.parts.specs.Writing.{Writing, lowest-behind}
+use Rattle.items.specs.Record.{section, ids, id-full, idWord, words, textsOf, itemOf, lowOf, recordOf, itemsOf, beginsIn}
 
--- there is no word
-pub word-empty : (w : List ℕ) → length w ≤ 0 → words .parse (drop 0 w) ≡ fail
+-- a number that is no section's id
+abbrev pub NoId : ℕ → Type 0
+NoId x = All (λ (i : SectionId). x ≡ idOf i → ⊥) ids
+
+no-id : (x : ℕ) → NoId x → (i : SectionId) → x ≡ idOf i → ⊥
+no-id x n = elim [ Types ↦ n .0 | Imports ↦ n .1 .0 | Tables ↦ n .1 .1 .0 | Elements ↦ n .1 .1 .1 .0 | Data ↦ n .1 .1 .1 .1 .0 ]
+
+-- ---- words: the first is a section's id, or there is none, or it is none's
+
+pub word-missing : (t : List ℕ) {w old : List ℕ} {s : Done} {new : List ℕ} → length w ≡ 0 → Walks words (itemOf t) (lowOf t) w 0 old s new walks.No
 unfolding words
-word-empty w h = rw (drop-end w 0 h)
+word-missing t {w} h = nothing-there (rw (drop-end w 0 (omega arith)))
 
-module _ (w : List ℕ) (h : 0 < length w) where
-  -- the first word is a section's id
-  pub word-section : (i : SectionId) → getD w 0 0 ≡ idOf i → (t old : List ℕ) (s : Done) (new : List ℕ) (r : Walk)
-      → Walks (section i .words) (λ a. section i .bytes .print (section i .resolve t a)) (λ a. lowestOf t (section i .texts a)) w 1 old s new r
+module _ (i : SectionId) where
+  pub word-section : {t w old : List ℕ} {s : Done} {new : List ℕ} {r : Walk} → (length w ≡ 0 → ⊥) → getD w 0 0 ≡ idOf i → Writing (section i) t w 1 old s new r
       → Walks words (itemOf t) (lowOf t) w 0 old s new r
   unfolding words textsOf itemOf
-  word-section i e t old s new r x =
-      record {
-        walked = walked-as (λ a. section i .bytes .print (section i .resolve t a)) (λ a. lowestOf t (section i .texts a)) (itemOf t) (lowOf t) (λ a. (i, a)) [] 9 w
-            (section i .words .parse (drop 1 w)) (words .parse (drop 0 w)) old s old s new r
-            (dep-known idWord (λ i. section i .words) i (drop 0 w) (drop 1 w) (one-read idWord i (idOf i) tt refl w 0 h e)) (λ a q p. refl)
-            (λ a. omega (arith, lowest-small t (section i .texts a))) (adds-nil old s) (x .walked);
-      }
+  word-section {t} {w} {old} {s} h e x =
+      walks-as (λ a. (i, a)) (dep-known idWord (λ i. section i .words) i (drop 0 w) (drop 1 w) (one-read idWord i (idOf i) tt refl w 0 (omega arith) e)) (λ a. refl)
+      (λ a. lowest-behind t (section i .texts a)) (adds-nil old s) (x .writes)
 
-  -- or none's
-  pub word-none : ((i : SectionId) → getD w 0 0 ≡ idOf i → ⊥) → words .parse (drop 0 w) ≡ fail
-  unfolding words
-  word-none n = rw (none-read idWord idOf (λ i. refl) w 0 h n)
+  -- one that holds no text
+  pub word-textless : (t : List ℕ) {w old : List ℕ} {s : Done} {new : List ℕ} {r : Walk} → (length w ≡ 0 → ⊥) → getD w 0 0 ≡ idOf i → ((t : List ℕ) → Writing (section i) t w 1 old s new r)
+      → Walks words (itemOf t) (lowOf t) w 0 old s new r
+  word-textless t h e x = word-section h e (x t)
 
-module _ (id : ℕ) (s : List ℕ) where
-  -- the id is a section's
-  pub byte-section : (i : SectionId) → id ≡ idOf i → (old : List ℕ) (u : Done) (cur : List ℕ) (t : Done) (new : List ℕ) (r : Walk) → Adds (id ∷ []) 9 old u cur t
-      → Walks (section i .bytes) (λ x. section i .words .print (section i .locate 0 x)) (λ x. 9) s 0 cur t new r → Walked recordOf (λ x. 9) s (beginsIn id s) old u new r
-  unfolding recordOf beginsIn
-  byte-section i e old u cur t new r a x =
-      walked-as (λ x. section i .words .print (section i .locate 0 x)) (λ x. 9) recordOf (λ x. 9) (λ x. (i, x)) (idOf i ∷ []) 9 s (section i .bytes .parse s) (beginsIn id s) old u cur t new r
-      (ap (λ (o : Option SectionId). itemsOf o s) (ap (find idOf ids) e ∙ id-full i)) (λ x q p. refl) (λ x. refl) (subst (λ (k : ℕ). Adds (k ∷ []) 9 old u cur t) e a) (x .walked)
+pub word-other : (t : List ℕ) {w old : List ℕ} {s : Done} {new : List ℕ} → (length w ≡ 0 → ⊥) → NoId (getD w 0 0) → Walks words (itemOf t) (lowOf t) w 0 old s new walks.No
+unfolding words
+word-other t {w} h n = nothing-there (rw (none-read idWord idOf (λ i. refl) w 0 (omega arith) (no-id (getD w 0 0) n)))
 
-  -- or none's
-  pub byte-none : ((i : SectionId) → id ≡ idOf i → ⊥) → beginsIn id s ≡ fail
-  unfolding beginsIn
-  byte-none n = rw (find-none idOf ids id n)
+-- ---- bytes: the id is a section's, or none's
+
+pub byte-section : (i : SectionId) {id : ℕ} {b old : List ℕ} {s : Done} {cur : List ℕ} {u : Done} {new : List ℕ} {r : Walk} → Appends (id ∷ []) old s cur u → id ≡ idOf i
+    → Reading (section i) b 0 cur u new r → Walking (beginsIn id) recordOf silent b 0 old s new r
+unfolding recordOf beginsIn
+byte-section i {b = b} {old} {s} {cur} {u} a e x =
+    walks-as (λ x. (i, x)) (ap (λ (o : Option SectionId). itemsOf o b) (ap (find idOf ids) e ∙ id-full i)) (λ x. refl) (λ x. refl) (subst (λ (k : ℕ). Appends (k ∷ []) old s cur u) e a)
+    (x .reads (omega arith))
+
+pub byte-other : (id : ℕ) {b old : List ℕ} {s : Done} {new : List ℕ} → NoId id → Walking (beginsIn id) recordOf silent b 0 old s new walks.No
+unfolding beginsIn
+byte-other id n = nothing-there (rw (find-none idOf ids id (no-id id n)))

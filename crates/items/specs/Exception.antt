@@ -8,6 +8,7 @@ use lib.ListN.{length}
 use Rattle.frames.specs.declared.SectionId.{SectionId}
 use Rattle.frames.specs.declared.SectionId.the-variants.{Types, Imports, Tables, Elements, Data}
 use Rattle.texts.specs.declared.Span.{Span}
+use Rattle.groups.specs.RecGroup.{as-located, as-resolved}
 use Rattle.elements.specs.Exception as elements
 use Rattle.elements.specs.Filled as segments
 use Rattle.items.specs.Record.{Body, ItemOf, section, Record}
@@ -45,7 +46,7 @@ recordFrom Data x = x
 -- what is read of an item that begins the bytes holds, in them, the item's bytes
 pub read-filled : (i : SectionId) (q r : List ℕ) (x : ItemOf i) → section i .bytes .Ok x
     → filledBody (q ++ (section i .bytes .print x ++ r)) i (section i .locate (length q) x) ≡ recordFrom i x
-read-filled Types q r x ok = refl
+read-filled Types q r x ok = as-located (length q) x
 read-filled Imports q r x ok = section Imports .located q r x ok
 read-filled Tables q r x ok = section Tables .located q r x ok
 read-filled Elements q r x ok = segments.read-filled q r x ok
@@ -53,7 +54,7 @@ read-filled Data q r x ok = section Data .located q r x ok
 
 -- and the item of an added record those that the record holds, but for the exception
 pub added-filled : (i : SectionId) (t : List ℕ) (a : Body i Span) → recordFrom i (section i .resolve t a) ≡ exceptionBody i (filledBody t i a)
-added-filled Types t a = refl
+added-filled Types t a = as-resolved t a
 added-filled Imports t a = refl
 added-filled Tables t a = refl
 added-filled Elements t a = segments.added-filled t a

@@ -77,6 +77,11 @@ told-length w t n e = go (eqb (why records w t) 0) refl
 abbrev pub Puts : List ℕ → List ℕ → List ℕ → List ℕ → Type 0
 Puts w t old new = why records w t ≡ 0 → length (itemIn records w t) ≤ length old → new ≡ over (itemIn records w t) old
 
+-- judging: the answer, and what is left in the room that was lent. A record, so that `search` finds it among what is known
+pub record Judges (w t old new : List ℕ) (r : Judged) : Type 0 where
+  pub is : r ≡ judgedOf w t
+  pub puts : Puts w t old new
+
 -- n is its length, and it stands at the front of what was tried, where there was room for it
 abbrev pub Tried : List ℕ → List ℕ → ℕ → List ℕ → Type 0
 Tried w t n s = (length (itemIn records w t) ≡ n) × (n ≤ length s → take n s ≡ itemIn records w t)

@@ -19,16 +19,14 @@ use Rattle.texts.specs.Text.{Kind, lowestOf}
 use Rattle.texts.specs.Judge.{Records, wordsMost}
 use Rattle.texts.specs.Section.{Section}
 use Rattle.texts.specs.declared.Span.{Span}
-use Rattle.groups.specs.RecGroup.{RecGroup}
-use Rattle.groups.specs.Section.{typeSection}
+use Rattle.groups.specs.RecGroup.{RecGroup, typeSection}
 use Rattle.imports.specs.Forms as imports
 use Rattle.imports.specs.Section.{importSection}
 use Rattle.tables.specs.Table.{Table, tableSection}
 use Rattle.elements.specs.Segment as elements
 use Rattle.elements.specs.Item as flagged
 use Rattle.elements.specs.Section.{elementSection}
-use Rattle.data.specs.Segment.{Segment}
-use Rattle.data.specs.Reading.{dataSection}
+use Rattle.data.specs.Segment.{Segment, dataSection}
 
 -- what a section's records are, over their texts
 abbrev pub Body : SectionId → Type 0 → Type 0

@@ -1,11 +1,13 @@
 -- The refusal that judging may start with: one that is above all that a record's texts can draw. Assumes nothing.
 use mathlib.Core.Path.{_≡_, sym, ap, _∙_}
-use mathlib.Core.Logic.{inl, inr, ⊎-elim}
+use mathlib.Core.Logic.{_↔_, inl, inr, ⊎-elim}
+use mathlib.Core.Bool.{Bool, true}
 use mathlib.Core.Option.{some}
 use mathlib.Core.List.{List, _∷_}
 use Prim.Native.Nat.{ℕ, _≤_, _<_}
 use native.Mathlib.Omega.{arith}
 use lib.ListN.{getD}
+use Rattle.format.specs.Count.{noRefusal}
 use Rattle.format.specs.Write.{fits-or}
 use Rattle.frames.specs.Frames.{idOf}
 use Rattle.frames.specs.declared.SectionId.the-variants.{Types, Imports, Tables, Elements, Data}
@@ -20,15 +22,17 @@ use Rattle.items.specs.Record.{Record, section, words, textsOf, records}
 
 -- r: of the record that the words are, its texts draw what is below r, or nothing
 pub record Starts (w t : List ℕ) (r : ℕ) : Type 0 where
-  pub few : r ≤ 9
+  pub few : r ≤ noRefusal
   pub below : (x : Record Span) → recordIn records w ≡ some x → Below records w t r x
 
--- nothing is above 9
-pub from-nine : (w t : List ℕ) → Starts w t 9
-from-nine w t =
+-- no refusal is above none
+pub from-none : {w t : List ℕ} → Starts w t noRefusal
+from-none {t = t} =
     record {
       few = omega arith;
-      below = λ x e. ⊎-elim (λ (h : 9 ≤ lowestOf t (textsOf x)). inr (omega (arith, lowest-small t (textsOf x)))) (λ (h : lowestOf t (textsOf x) < 9). inl h) (fits-or 9 (lowestOf t (textsOf x)));
+      below =
+          λ x e. ⊎-elim (λ (h : noRefusal ≤ lowestOf t (textsOf x)). inr (omega (arith, lowest-small t (textsOf x)))) (λ (h : lowestOf t (textsOf x) < noRefusal). inl h)
+          (fits-or noRefusal (lowestOf t (textsOf x)));
     }
 
 -- the texts of a record whose first word is 2 are names
@@ -45,12 +49,12 @@ unfolding words
 first-is w x e = ap (λ (l : List ℕ). getD l 0 0) (record-inv records w x e .1)
 
 -- with a plain text, an import draws 3 or nothing
-pub from-four : (w t : List ℕ) → getD w 0 0 ≡ 2 → IsPlain t → Starts w t 4
-from-four w t f p =
+pub from-four : {w t : List ℕ} {b : Bool} → getD w 0 0 ≡ 2 → (b ≡ true) ↔ IsPlain t → b ≡ true → Starts w t 4
+from-four {w} {t} f p q =
     record {
       few = omega arith;
       below = λ x e. (
-          let o = plain-only t p (textsOf x) (names-of x (sym (first-is w x e) ∙ f)) in
-          ⊎-elim (λ (h : lowestOf t (textsOf x) ≡ 3). inl (omega arith)) (λ (h : lowestOf t (textsOf x) ≡ 9). inr h) o
+          let o = plain-only t (p .0 q) (textsOf x) (names-of x (sym (first-is w x e) ∙ f)) in
+          ⊎-elim (λ (h : lowestOf t (textsOf x) ≡ 3). inl (omega arith)) (λ (h : lowestOf t (textsOf x) ≡ noRefusal). inr h) o
           );
     }

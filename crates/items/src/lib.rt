@@ -9,9 +9,10 @@ use plain::is_plain;
 ghost use mathlib.Core.Path.{_≡_};
 ghost use Prim.Native.Nat.{_≤_};
 ghost use lib.ListN.{length};
-ghost use Rattle.format.specs.Walk.{Walked, Walks};
+ghost use Rattle.format.specs.Count.{silent};
+ghost use Rattle.format.specs.Walk.{Walking, Walks};
 ghost use Rattle.items.specs.Record.{words as wordsOf, itemOf, lowOf, beginsIn, recordOf};
-ghost use Rattle.items.specs.Judging.{judgedOf, Tried, Puts};
+ghost use Rattle.items.specs.Judging.{Judges, Tried, Puts};
 ghost use Rattle.items.specs.Start.{Starts};
 
 // Reads a record's words and appends its item.
@@ -34,7 +35,7 @@ pub fn walk_words(words: &[u32], text: &[u8], out: &mut [u8], s: Done) -> Walk
 // Reads an item and appends its record's words.
 pub fn walk_bytes(id: u8, bytes: &[u8], out: &mut [u32], s: Done) -> Walk
     requires { ⌜ length (now bytes) ≤ 65536 ⌝ }
-    ensures { λ r. ⌜ Walked recordOf (λ x. 9) (now (bytes .entry)) (beginsIn id (now (bytes .entry))) (now (out .entry)) s (now (out .exit)) r ⌝ }
+    ensures { λ r. ⌜ Walking (beginsIn id) recordOf silent (now (bytes .entry)) 0 (now (out .entry)) s (now (out .exit)) r ⌝ }
 {
     let t = append_word(id as u32, out, s);
     match id {
@@ -75,7 +76,7 @@ fn start(words: &[u32], text: &[u8]) -> u32
 
 // Measured by a walk, which leaves the item of a record that draws none of them in `tried`, where there is room.
 pub fn judge(words: &[u32], text: &[u8], tried: &mut [u8]) -> Judged
-    ensures { λ r. ⌜ (r ≡ judgedOf (now (words .entry)) (now (text .entry))) × Puts (now (words .entry)) (now (text .entry)) (now (tried .entry)) (now (tried .exit)) ⌝ }
+    ensures { λ r. ⌜ Judges (now (words .entry)) (now (text .entry)) (now (tried .entry)) (now (tried .exit)) r ⌝ }
 {
     if 4096 < words.len() {
         return Judged::Refused(2);

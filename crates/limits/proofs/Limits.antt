@@ -1,66 +1,137 @@
--- A number at a place, and limits there: by their flags, what they are. Assumes nothing.
+-- How the walks over limits are put together: a size, a minimum and what stands behind it, and both behind their flags. Assumes nothing.
 use mathlib.Core.Path.{_≡_, refl, sym, ap, subst, _∙_}
-use mathlib.Core.Bool.{Bool}
+use mathlib.Core.Bool.{Bool, false}
 use mathlib.Core.List.{List, [], _∷_}
-use Prim.Native.Nat.{ℕ, _+_, _*_, _^_, _<_, _≤_}
+use Prim.Native.Nat.{ℕ, _+_, _-_, _*_, _/_, _^_, _<_, _≤_}
+use native.Mathlib.Omega.{arith}
 use lib.Bits.{bitAnd, and-mask}
 use lib.Dec.{eqb}
 use lib.ListN.{length, getD, drop}
+use mir.Syntax.{w32, w64}
+use mir.Val.{Fits}
 use borrow.Author.Tests.{lt-ltb, le-ltb}
-use Rattle.format.specs.Parsed.{got}
+use Rattle.format.specs.Parsed.{map, map-map}
 use Rattle.format.specs.Format.{Format}
-use Rattle.format.specs.Combine.{dep, depPrint}
-use Rattle.format.specs.Read.{drop-more, drop-two}
-use Rattle.format.specs.Count.{Adds, adds-nil}
-use Rattle.format.specs.Walk.{Walks, walks-no, walks-tail}
-use Rattle.format.specs.Sequence.{Joins, pair-joins, walks-known}
+use Rattle.format.specs.Basic.{empty}
+use Rattle.format.specs.Combine.{depPrint}
+use Rattle.format.specs.Count.{Appends, silent, adds-seq, adds-eq}
+use Rattle.format.specs.Read.{reading, told-found, told-nothing, drop-more, drop-two}
+use Rattle.format.specs.Sequence.{Joins, pair-joins, dep-known, first-missing, second-follows}
+use Rattle.format.specs.Dispatch.{Opens, opened}
+use Rattle.format.specs.Walk.{Walks, gone, nothing-there, value-there}
 use Rattle.format.specs.declared.Done.{Done}
 use Rattle.format.specs.declared.Walk.{Walk}
 use Rattle.format.specs.declared.Walk.the-variants as walks
+use Rattle.leb128.specs.Leb.{uleb}
+use Rattle.leb128.specs.Formats.{u64}
+use Rattle.numbers.specs.Answers.{readU64}
+use Rattle.numbers.specs.declared.ReadU64.{ReadU64}
+use Rattle.numbers.specs.declared.ReadU64.the-variants as U64
+use Rattle.texts.specs.WordWalks.{AreWords}
+use Rattle.types.specs.Vals.{unused}
 use Rattle.limits.specs.Number64.{number64}
 use Rattle.limits.specs.Flags.{flags, flagsOf, flags-to-of}
-use Rattle.limits.specs.Limits.{Behind, Parts, limitsOf, limits-to-of, behind, sizes, limits}
+use Rattle.limits.specs.Limits.{limitsOf, limits-to-of, behind, sizes, limits}
 
--- ---- two words
+-- ---- a size: 64 bits, of two words
 
-module _ (w : List ℕ) (at : ℕ) (h : at + 2 ≤ length w) (p : getD w at 0 < 2 ^ 32) (q : getD w (at + 1) 0 < 2 ^ 32) where
-  pub number-two : number64 .parse (drop at w) ≡ got (getD w at 0 + getD w (at + 1) 0 * 2 ^ 32) (drop (at + 2) w)
-  number-two = rw (drop-two w at h, lt-ltb (getD w at 0) (2 ^ 32) p, lt-ltb (getD w (at + 1) 0) (2 ^ 32) q)
-  -- ---- limits, by their flags: they are walked by walking what stands behind
+pub low-fits : (v : ℕ) → Fits w32 (bitAnd v 0xFFFFFFFF)
+low-fits v = record { fits = omega (arith, and-mask v 32) }
 
-module _ (N N′ : Format ℕ) (Z Z′ : Format (Unit {0})) (w : List ℕ) (at : ℕ) (h : at < length w) (old : List ℕ) (s : Done) where
-  pub limits-large : (new : List ℕ) → 8 ≤ getD w at 0 → Walks (limits N Z) (limits N′ Z′ .print) (λ l. 9) w at old s new walks.No
-  limits-large new l = walks-no (limits N Z) (limits N′ Z′ .print) (λ l. 9) w at old s new (rw (drop-more w at h, le-ltb (getD w at 0) 8 l))
+pub high-fits : (w : List ℕ) (i : ℕ) → AreWords w → Fits w64 (getD w i 0 * 0x100000000)
+high-fits w i k = record { fits = omega (arith, k i .fits) }
 
-  abbrev parts : Format Parts
-  parts = dep flags (λ f. sizes N Z (f .present))
+pub both-fit : (w : List ℕ) (i j : ℕ) → AreWords w → Fits w64 (getD w i 0 + getD w j 0 * 0x100000000)
+both-fit w i j k = record { fits = omega (arith, k i .fits, k j .fits) }
 
-  abbrev written : Parts → List ℕ
-  written p = limits N′ Z′ .print (limitsOf p)
+module _ {w : List ℕ} {at : ℕ} {old : List ℕ} {s : Done} {new : List ℕ} where
+  module _ {r : ReadU64} (d : readU64 r ≡ reading 0 w (u64 .parse (drop at w))) where
+    pub size-missing : r ≡ U64.Nothing → Walks u64 (number64 .print) silent w at old s new walks.No
+    size-missing e = nothing-there (told-nothing 0 w (sym (ap readU64 e) ∙ d))
 
-  module _ (x : ℕ) (l : x < 8) where
-    flags-print : (p : ℕ × Behind (flagsOf x .present)) → x ∷ sizes N′ Z′ (flagsOf x .present) .print p ≡ written (flagsOf x, p)
-    flags-print p =
-        ap (λ (n : ℕ). n ∷ sizes N′ Z′ (flagsOf x .present) .print p) (sym (flags-to-of x l))
-        ∙ sym (ap (depPrint flags (λ f. sizes N′ Z′ (f .present))) (limits-to-of (flagsOf x, p)))
+    pub size-there : {v p : ℕ} {cur : List ℕ} {t u : Done} → r ≡ U64.Value v p → Appends (bitAnd v 0xFFFFFFFF ∷ []) old s cur t → Appends (v / 0x100000000 ∷ []) cur t new u
+        → Walks u64 (number64 .print) silent w at old s new (walks.Got p u)
+    size-there {v} e a b =
+        let g = told-found 0 w u64 at (sym (ap readU64 e) ∙ d) in
+        value-there {a = v} (adds-eq (ap (λ (n : ℕ). n ∷ v / 2 ^ 32 ∷ []) (and-mask v 32)) refl (adds-seq a b)) (g .0) (g .1)
 
-  pub limits-walk : (cur : List ℕ) (t : Done) (new : List ℕ) (r : Walk) → getD w at 0 < 8 → Adds (getD w at 0 ∷ []) 9 old s cur t
-      → Walks (sizes N Z (eqb (bitAnd (getD w at 0) 1) 1)) (sizes N′ Z′ (eqb (bitAnd (getD w at 0) 1) 1) .print) (λ p. 9) w (at + 1) cur t new r
-      → Walks (limits N Z) (limits N′ Z′ .print) (λ l. 9) w at old s new r
-  limits-walk cur t new r l a y =
-      let x = getD w at 0 in
-      let e : eqb (bitAnd x 1) 1 ≡ flagsOf x .present = ap (λ (n : ℕ). eqb n 1) (and-mask x 1) in
-      let z = subst (λ (c : Bool). Walks (sizes N Z c) (sizes N′ Z′ c .print) (λ p. 9) w (at + 1) cur t new r) e y in
-      let k : Walks parts written (λ p. 9) w at old s new r =
-      walks-known flags (λ f. sizes N Z (f .present)) written (flagsOf x) (sizes N′ Z′ (flagsOf x .present) .print) (x ∷ []) w at (at + 1) old s cur t new r
-      (rw (drop-more w at h, lt-ltb x 8 l)) (λ p q i. flags-print x l p) a z in
-      walks-tail parts written (λ p. 9) (limits N Z) (limits N′ Z′ .print) (λ l. 9) limitsOf [] 9 w at at old s old s new r refl (λ p. refl) (λ p. refl) (adds-nil old s) k
+  pub size-walks : {u : Done} → at < length w → 2 ≤ length w - at → Appends (uleb (getD w at 0 + getD w (at + 1) 0 * 0x100000000)) old s new u → AreWords w
+      → Walks number64 (u64 .print) silent w at old s new (walks.Got (at + 2) u)
+  size-walks h l a k =
+      value-there {a = getD w at 0 + getD w (at + 1) 0 * 2 ^ 32} a
+      (rw (drop-two w at (omega arith), lt-ltb (getD w at 0) (2 ^ 32) (k at .fits), lt-ltb (getD w (at + 1) 0) (2 ^ 32) (k (at + 1) .fits))) (omega arith)
 
--- a minimum, and what stands behind it
-pub sizes-joins : (N N′ : Format ℕ) (Z Z′ : Format (Unit {0})) (b : Bool)
-    → Joins (N .parse) (N′ .print) (λ n. 9) (behind N Z b .parse) (behind N′ Z′ b .print) (λ n. 9) (sizes N Z b .parse) (sizes N′ Z′ b .print) (λ p. 9)
-sizes-joins N N′ Z Z′ b = pair-joins N (N′ .print) (behind N Z b) (behind N′ Z′ b .print)
+-- ---- a way: what is read and what is written of it, for a size and for where there is no maximum
 
-pub behind-by : (N N′ : Format ℕ) (Z Z′ : Format (Unit {0})) (w : List ℕ) (at : ℕ) (old : List ℕ) (s : Done) (new : List ℕ) (r : Walk) {b c : Bool} → b ≡ c
-    → Walks (behind N Z c) (behind N′ Z′ c .print) (λ n. 9) w at old s new r → Walks (behind N Z b) (behind N′ Z′ b .print) (λ n. 9) w at old s new r
-behind-by N N′ Z Z′ w at old s new r e h = subst (λ (c : Bool). Walks (behind N Z c) (behind N′ Z′ c .print) (λ n. 9) w at old s new r) (sym e) h
+pub record Way : Type 1 where
+  pub from : Format ℕ
+  pub to : Format ℕ
+  pub fromNone : Format (Unit {0})
+  pub toNone : Format (Unit {0})
+
+abbrev pub ofBytes : Way
+ofBytes = record { from = u64; to = number64; fromNone = empty; toNone = unused }
+
+abbrev pub ofWords : Way
+ofWords = record { from = number64; to = u64; fromNone = unused; toNone = empty }
+
+-- the walks over a size; over what stands behind the minimum, b saying whether it is a maximum; over both; and over limits
+module _ (D : Way) where
+  abbrev Size : List ℕ → ℕ → List ℕ → Done → List ℕ → Walk → Type 0
+  Size = Walks (D .from) (D .to .print) silent
+
+  abbrev Rest : Bool → List ℕ → ℕ → List ℕ → Done → List ℕ → Walk → Type 0
+  Rest b = Walks (behind (D .from) (D .fromNone) b) (behind (D .to) (D .toNone) b .print) silent
+
+  abbrev Sizes : Bool → List ℕ → ℕ → List ℕ → Done → List ℕ → Walk → Type 0
+  Sizes b = Walks (sizes (D .from) (D .fromNone) b) (sizes (D .to) (D .toNone) b .print) silent
+
+  abbrev Whole : List ℕ → ℕ → List ℕ → Done → List ℕ → Walk → Type 0
+  Whole = Walks (limits (D .from) (D .fromNone)) (limits (D .to) (D .toNone) .print) silent
+
+  -- ---- a minimum, and what stands behind it
+
+  sizes-join : (b : Bool)
+      → Joins (D .from .parse) (D .to .print) silent (behind (D .from) (D .fromNone) b .parse) (behind (D .to) (D .toNone) b .print) silent (sizes (D .from) (D .fromNone) b .parse)
+      (sizes (D .to) (D .toNone) b .print) silent
+  sizes-join b = pair-joins (D .from) (D .to .print) (behind (D .from) (D .fromNone) b) (behind (D .to) (D .toNone) b .print)
+
+  pub no-minimum : (b : Bool) {w : List ℕ} {at : ℕ} {old : List ℕ} {s : Done} {new : List ℕ} {r : Walk} → Size w at old s new r → r ≡ walks.No → Sizes b w at old s new walks.No
+  no-minimum b h e = first-missing (sizes-join b) h e
+
+  pub rest-follows : (c b : Bool) {w : List ℕ} {at : ℕ} {old : List ℕ} {s : Done} {cur : List ℕ} {r : Walk} {p : ℕ} {u : Done} {new : List ℕ} {r′ : Walk} → Size w at old s cur r
+      → r ≡ walks.Got p u → b ≡ c → Rest c w p cur u new r′ → Sizes b w at old s new r′
+  rest-follows c b {w} {cur = cur} {p = p} {u} {new} {r′} h e i k = second-follows (sizes-join b) h e (subst (λ (c : Bool). Rest c w p cur u new r′) (sym i) k)
+
+-- no maximum: of no bytes two words are appended; and of two unused words nothing
+module _ (b : Bool) (i : b ≡ false) {w : List ℕ} {at : ℕ} {old : List ℕ} {s : Done} {new : List ℕ} {r : Walk} {p : ℕ} {u : Done} where
+  pub none-there : {cur : List ℕ} {v : Done} → Size ofBytes w at old s cur r → r ≡ walks.Got p u → Appends (0 ∷ 0 ∷ []) cur u new v → Sizes ofBytes b w at old s new (walks.Got p v)
+  none-there {cur} h e a = rest-follows ofBytes false b h e i (value-there {a = tt} a refl (gone u64 h e .place))
+
+  pub unused-follow : {r′ : Walk} → Size ofWords w at old s new r → r ≡ walks.Got p u → ((out : List ℕ) → Walks unused (λ x. []) silent w p out u out r′) → Sizes ofWords b w at old s new r′
+  unused-follow h e k = rest-follows ofWords false b h e i (k new)
+
+-- ---- both behind their flags
+
+module _ (D : Way) where
+  flags-open : (x : ℕ) → x < 8
+      → Opens x (x ∷ []) (sizes (D .from) (D .fromNone) (flagsOf x .present) .parse) (sizes (D .to) (D .toNone) (flagsOf x .present) .print) silent (limits (D .from) (D .fromNone) .parse)
+      (limits (D .to) (D .toNone) .print) silent
+  flags-open x l =
+      record {
+        name = λ p. limitsOf (flagsOf x, p);
+        reads = λ s. ap (map limitsOf) (dep-known flags (λ f. sizes (D .from) (D .fromNone) (f .present)) (flagsOf x) (x ∷ s) s (rw (lt-ltb x 8 l)))
+            ∙ map-map limitsOf (λ p. (flagsOf x, p)) (sizes (D .from) (D .fromNone) (flagsOf x .present) .parse s);
+        writes = λ p. ap (λ (n : ℕ). n ∷ sizes (D .to) (D .toNone) (flagsOf x .present) .print p) (sym (flags-to-of x l))
+            ∙ sym (ap (depPrint flags (λ f. sizes (D .to) (D .toNone) (f .present))) (limits-to-of (flagsOf x, p)));
+        draws = λ p. refl;
+      }
+
+  module _ {w : List ℕ} {at : ℕ} {old : List ℕ} {s : Done} {new : List ℕ} (h : at < length w) where
+    pub flags-large : (getD w at 0 / 8 ≡ 0 → ⊥) → Whole D w at old s new walks.No
+    flags-large n = nothing-there (rw (drop-more w at h, le-ltb (getD w at 0) 8 (omega arith)))
+
+    pub sizes-follow : {cur : List ℕ} {t : Done} {r : Walk} → getD w at 0 / 8 ≡ 0 → Appends (getD w at 0 ∷ []) old s cur t → Sizes D (eqb (bitAnd (getD w at 0) 1) 1) w (at + 1) cur t new r
+        → Whole D w at old s new r
+    sizes-follow {cur} {t} {r} l a k =
+        opened (flags-open (getD w at 0) (omega arith)) refl h (subst (λ (c : Bool). Sizes D c w (at + 1) cur t new r) (ap (λ (n : ℕ). eqb n 1) (and-mask (getD w at 0) 1)) k) a

@@ -5,6 +5,7 @@ use format::append_word;
 use numbers::ReadU64;
 use texts::Span;
 use texts::append_span;
+ghost use Rattle.format.specs.Count.{silent};
 ghost use Rattle.format.specs.Walk.{Walks};
 ghost use Rattle.leb128.specs.Formats.{u64};
 ghost use Rattle.limits.specs.Number64.{number64};
@@ -12,7 +13,7 @@ ghost use Rattle.limits.specs.Limits.{sizesWords, sizesBytes, limitsWord
 
 // A 64-bit number, as low word, high word.
 fn read_size(b: &[u8], at: usize, out: &mut [u32], s: Done) -> Walk
-    ensures { λ r. ⌜ Walks u64 (number64 .print) (λ x. 9) (now (b .entry)) at (now (out .entry)) s (now (out .exit)) r ⌝ }
+    ensures { λ r. ⌜ Walks u64 (number64 .print) silent (now (b .entry)) at (now (out .entry)) s (now (out .exit)) r ⌝ }
 {
     let ReadU64::Value(v, p) = numbers::decode_u64(b, at) else {
         return Walk::No;
@@ -23,7 +24,7 @@ fn read_size(b: &[u8], at: usize, out: &mut [u32], s: Done) -> Walk
 
 // The minimum, and the maximum if there is one.
 fn read_sizes(maximum: bool, b: &[u8], at: usize, out: &mut [u32], s: Done) -> Walk
-    ensures { λ r. ⌜ Walks (sizesBytes maximum) (sizesWords maximum .print) (λ x. 9) (now (b .entry)) at (now (out .entry)) s (now (out .exit)) r ⌝ }
+    ensures { λ r. ⌜ Walks (sizesBytes maximum) (sizesWords maximum .print) silent (now (b .entry)) at (now (out .entry)) s (now (out .exit)) r ⌝ }
 {
     let Walk::Got(p, t) = read_size(b, at, out, s) else {
         return Walk::No;
@@ -37,7 +38,7 @@ fn read_sizes(maximum: bool, b: &[u8], at: usize, out: &mut [u32], s: Done) -> W
 
 // Flags: bit 0 says that there is a maximum, bit 1 shared, bit 2 64-bit.
 pub fn read_limits(b: &[u8], at: usize, out: &mut [u32], s: Done) -> Walk
-    ensures { λ r. ⌜ Walks limitsBytes (limitsWords .print) (λ x. 9) (now (b .entry)) at (now (out .entry)) s (now (out .exit)) r ⌝ }
+    ensures { λ r. ⌜ Walks limitsBytes (limitsWords .print) silent (now (b .entry)) at (now (out .entry)) s (now (out .exit)) r ⌝ }
 {
     if b.len() <= at {
         return Walk::No;

@@ -5,6 +5,7 @@ use format::append_byte;
 use numbers::append_u64;
 ghost use mathlib.Core.List.{List, []};
 ghost use Prim.Native.Nat.{ℕ};
+ghost use Rattle.format.specs.Count.{silent};
 ghost use Rattle.format.specs.Walk.{Walks};
 ghost use Rattle.leb128.specs.Formats.{u64};
 ghost use Rattle.types.specs.Vals.{unused};
@@ -13,7 +14,7 @@ ghost use Rattle.limits.specs.Limits.{sizesWords, sizesBytes, limitsWord
 
 // A 64-bit number: low word, high word.
 fn walk_size(words: &[u32], at: usize, out: &mut [u8], s: Done) -> Walk
-    ensures { λ r. ⌜ Walks number64 (u64 .print) (λ x. 9) (now (words .entry)) at (now (out .entry)) s (now (out .exit)) r ⌝ }
+    ensures { λ r. ⌜ Walks number64 (u64 .print) silent (now (words .entry)) at (now (out .entry)) s (now (out .exit)) r ⌝ }
 {
     if words.len() <= at {
         return Walk::No;
@@ -28,7 +29,7 @@ fn walk_size(words: &[u32], at: usize, out: &mut [u8], s: Done) -> Walk
 
 // Two unused words, of which nothing is written.
 pub fn walk_unused(words: &[u32], at: usize, s: Done) -> Walk
-    ensures { λ r. ⌜ ((out : List ℕ) → Walks unused (λ x. []) (λ x. 9) (now (words .entry)) at out s out r) ⌝ }
+    ensures { λ r. ⌜ ((out : List ℕ) → Walks unused (λ x. []) silent (now (words .entry)) at out s out r) ⌝ }
 {
     if words.len() <= at {
         return Walk::No;
@@ -47,7 +48,7 @@ pub fn walk_unused(words: &[u32], at: usize, s: Done) -> Walk
 
 // The minimum, and the maximum or two unused words.
 fn walk_sizes(maximum: bool, words: &[u32], at: usize, out: &mut [u8], s: Done) -> Walk
-    ensures { λ r. ⌜ Walks (sizesWords maximum) (sizesBytes maximum .print) (λ x. 9) (now (words .entry)) at (now (out .entry)) s (now (out .exit)) r ⌝ }
+    ensures { λ r. ⌜ Walks (sizesWords maximum) (sizesBytes maximum .print) silent (now (words .entry)) at (now (out .entry)) s (now (out .exit)) r ⌝ }
 {
     let Walk::Got(p, t) = walk_size(words, at, out, s) else {
         return Walk::No;
@@ -60,7 +61,7 @@ fn walk_sizes(maximum: bool, words: &[u32], at: usize, out: &mut [u8], s: Done) 
 
 // Flags: bit 0 says that there is a maximum, bit 1 shared, bit 2 64-bit.
 pub fn walk_limits(words: &[u32], at: usize, out: &mut [u8], s: Done) -> Walk
-    ensures { λ r. ⌜ Walks limitsWords (limitsBytes .print) (λ x. 9) (now (words .entry)) at (now (out .entry)) s (now (out .exit)) r ⌝ }
+    ensures { λ r. ⌜ Walks limitsWords (limitsBytes .print) silent (now (words .entry)) at (now (out .entry)) s (now (out .exit)) r ⌝ }
 {
     if words.len() <= at {
         return Walk::No;

@@ -4,22 +4,23 @@ use mathlib.Core.List.{List, [], _∷_}
 use Prim.Native.Nat.{ℕ, _+_, _-_, _<_}
 use lib.ListN.{length, getD, drop}
 use Rattle.format.specs.Format.{Format}
-use Rattle.format.specs.Count.{Adds, silent}
+use Rattle.format.specs.Count.{Appends, silent}
 use Rattle.format.specs.Read.{reading}
 use Rattle.format.specs.Walk.{Walks}
-use Rattle.format.specs.Loop.{CountedList, counted-list, Members}
+use Rattle.format.specs.Loop.{Members}
+use Rattle.format.specs.Counted.{CountedList, counted-plain}
 use Rattle.format.specs.declared.Done.{Done}
 use Rattle.format.specs.declared.Walk.{Walk}
 use Rattle.format.specs.declared.Walk.the-variants as walks
 use Rattle.leb128.specs.Leb.{uleb}
 use Rattle.leb128.specs.Formats.{u32}
 use Rattle.numbers.specs.Answers.{readU32}
-use Rattle.numbers.specs.Told as bytes
+use Rattle.numbers.specs.Decoded as bytes
 use Rattle.numbers.specs.declared.ReadU32.{ReadU32}
 use Rattle.numbers.specs.declared.ReadU32.the-variants as U32
 use Rattle.texts.specs.Words.{word}
-use Rattle.texts.specs.Steps.{AreWords}
-use Rattle.texts.specs.Steps as words
+use Rattle.texts.specs.WordWalks.{AreWords}
+use Rattle.texts.specs.WordWalks as words
 use Rattle.lists.specs.Member.{Value, memberWords, memberBytes, listWords, listBytes, words-long, bytes-long}
 use Rattle.lists.specs.declared.Member.{Member}
 
@@ -29,11 +30,11 @@ pub as-member : (W X : (m : Member) → Format (Value m)) (n : Member) {m : Memb
 as-member W X n {m} {w} {at} {old} {s} {new} {r} e h = subst (λ (k : Member). Walks (W k) (X k .print) silent w at old s new r) (sym e) h
 
 -- a list behind its count: the laws of `numbers` and `texts`, for any kind of member
-list-of-bytes : (m : Member) → CountedList (u32 .parse) (λ n. n ∷ []) (memberBytes m) (memberWords m .print) (listBytes m .parse) (listWords m .print)
-list-of-bytes m = counted-list u32 (λ n. n ∷ []) (memberBytes m) (memberWords m .print) (bytes-long m)
+list-of-bytes : (m : Member) → CountedList u32 (λ n. n ∷ []) (memberBytes m) (λ k v. memberWords m .print v) silent (λ k xs. listWords m .print xs) silent
+list-of-bytes m = counted-plain u32 (λ n. n ∷ []) (memberBytes m) (memberWords m .print) bytes.u32-long (bytes-long m)
 
-list-of-words : (m : Member) → CountedList (word .parse) uleb (memberWords m) (memberBytes m .print) (listWords m .parse) (listBytes m .print)
-list-of-words m = counted-list word uleb (memberWords m) (memberBytes m .print) (words-long m)
+list-of-words : (m : Member) → CountedList word uleb (memberWords m) (λ k v. memberBytes m .print v) silent (λ k xs. listBytes m .print xs) silent
+list-of-words m = counted-plain word uleb (memberWords m) (memberBytes m .print) words.word-long (words-long m)
 
 module _ (m : Member) {w : List ℕ} {at : ℕ} {old : List ℕ} {s : Done} {new : List ℕ} where
   module _ {r : ReadU32} (d : readU32 r ≡ reading 0 w (u32 .parse (drop at w))) where
@@ -41,16 +42,16 @@ module _ (m : Member) {w : List ℕ} {at : ℕ} {old : List ℕ} {s : Done} {new
     no-count e = bytes.no-count u32 (list-of-bytes m) d e
 
     module _ {n p : ℕ} (e : r ≡ U32.Value n p) where
-      pub large-count : length w - p < n → Walks (listBytes m) (listWords m .print) silent w at old s new walks.No
-      large-count h = bytes.large-count u32 (list-of-bytes m) d e h
+      pub count-too-large : length w - p < n → Walks (listBytes m) (listWords m .print) silent w at old s new walks.No
+      count-too-large h = bytes.count-too-large u32 (list-of-bytes m) d e h
 
-      pub then-members : {cur : List ℕ} {t : Done} {r′ : Walk} → Adds (n ∷ []) 9 old s cur t → Members (memberBytes m) (memberWords m .print) w p n cur t new r′
+      pub then-members : {cur : List ℕ} {t : Done} {r′ : Walk} → Appends (n ∷ []) old s cur t → Members (memberBytes m) (memberWords m .print) w p n cur t new r′
           → Walks (listBytes m) (listWords m .print) silent w at old s new r′
       then-members a k = bytes.then-members u32 (list-of-bytes m) d e a k
 
-  pub large-count-word : at < length w → length w - at - 1 < getD w at 0 → AreWords w → Walks (listWords m) (listBytes m .print) silent w at old s new walks.No
-  large-count-word h l k = words.large-count (list-of-words m) h l k
+  pub more-than-words : at < length w → length w - at - 1 < getD w at 0 → AreWords w → Walks (listWords m) (listBytes m .print) silent w at old s new walks.No
+  more-than-words h l k = words.more-than-words (list-of-words m) h l k
 
-  pub then-members-words : {cur : List ℕ} {t : Done} {r : Walk} → at < length w → Adds (uleb (getD w at 0)) 9 old s cur t
+  pub members-behind : {cur : List ℕ} {t : Done} {r : Walk} → at < length w → Appends (uleb (getD w at 0)) old s cur t
       → Members (memberWords m) (memberBytes m .print) w (at + 1) (getD w at 0) cur t new r → AreWords w → Walks (listWords m) (listBytes m .print) silent w at old s new r
-  then-members-words h a k i = words.then-members (list-of-words m) h a k i
+  members-behind h a k i = words.members-behind (list-of-words m) h a k i

@@ -10,7 +10,7 @@ ghost use lib.IntN.{pos};
 ghost use lib.ListN.{length, drop};
 ghost use lib.Signed.{ltZ, mag};
 ghost use Prim.Native.Nat.{_%_, _≤_, _<_, _^_};
-ghost use Rattle.format.specs.Count.{Adds};
+ghost use Rattle.format.specs.Count.{Appends};
 ghost use Rattle.format.specs.Read.{reading};
 ghost use Rattle.format.specs.Write.{Writes};
 ghost use Rattle.leb128.specs.Leb.{leb, uleb, sleb};
@@ -94,7 +94,7 @@ pub fn encoding_size(n: u32) -> usize
 
 // Behind what was appended before, as far as there is room (`format::Done`): a number that is not below 0, with or without a sign's bit.
 fn append_natural(signed: bool, v: u64, out: &mut [u8], s: Done) -> Done
-    ensures { λ r. ⌜ Adds (leb signed (pos v)) 9 (now (out .entry)) s (now (out .exit)) r ⌝ }
+    ensures { λ r. ⌜ Appends (leb signed (pos v)) (now (out .entry)) s (now (out .exit)) r ⌝ }
 {
     let at = least(count(s), out.len());
     match leb128::encode(signed, false, v, &mut out[at..]) {
@@ -104,19 +104,19 @@ fn append_natural(signed: bool, v: u64, out: &mut [u8], s: Done) -> Done
 }
 
 pub fn append_u32(v: u32, out: &mut [u8], s: Done) -> Done
-    ensures { λ r. ⌜ Adds (uleb v) 9 (now (out .entry)) s (now (out .exit)) r ⌝ }
+    ensures { λ r. ⌜ Appends (uleb v) (now (out .entry)) s (now (out .exit)) r ⌝ }
 {
     append_natural(false, v as u64, out, s)
 }
 
 pub fn append_u64(v: u64, out: &mut [u8], s: Done) -> Done
-    ensures { λ r. ⌜ Adds (uleb v) 9 (now (out .entry)) s (now (out .exit)) r ⌝ }
+    ensures { λ r. ⌜ Appends (uleb v) (now (out .entry)) s (now (out .exit)) r ⌝ }
 {
     append_natural(false, v, out, s)
 }
 
 pub fn append_index(v: u32, out: &mut [u8], s: Done) -> Done
-    ensures { λ r. ⌜ Adds (sleb (pos v)) 9 (now (out .entry)) s (now (out .exit)) r ⌝ }
+    ensures { λ r. ⌜ Appends (sleb (pos v)) (now (out .entry)) s (now (out .exit)) r ⌝ }
 {
     append_natural(true, v as u64, out, s)
 }

@@ -5,4 +5,4 @@ pub mod Listed
 pub mod Writing
 pub mod Reading
 pub mod Chosen
-pub mod Steps
+pub mod ListWalks

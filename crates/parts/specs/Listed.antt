@@ -1,5 +1,5 @@
 -- A list as a part (document 01, Records: a count word, then its members; Items to bytes: the count, then them). Assumes nothing.
-use mathlib.Core.Path.{_≡_, refl, sym, ap, subst, _∙_}
+use mathlib.Core.Path.{_≡_, refl, sym, ap, subst}
 use mathlib.Core.List.{List, [], _∷_, _++_}
 use Prim.Native.Nat.{ℕ, suc, _+_, _≤_}
 use lib.ListN.{length, length-append}
@@ -22,6 +22,11 @@ pub length-each : {A B : Type 0} (f : A → B) (xs : List A) → length (each f 
 length-each f [] = refl
 length-each f (a ∷ xs) = rw (length-each f xs)
 
+-- which changes nothing of the list, where it changes none
+pub each-same : {A : Type 0} (f : A → A) → ((a : A) → f a ≡ a) → (xs : List A) → each f xs ≡ xs
+each-same f same [] = refl
+each-same f same (a ∷ xs) = rw (same a, each-same f same xs)
+
 module _ {A B : Type 0} (S : Section A B) where
   -- all texts, in their order
   abbrev pub textsOf : List A → List (Kind × Span)
@@ -36,6 +41,11 @@ module _ {A B : Type 0} (S : Section A B) where
   pub length-locates : (n : ℕ) (xs : List B) → length (locates n xs) ≡ length xs
   length-locates n [] = refl
   length-locates n (x ∷ xs) = rw (length-locates (n + length (S .bytes .print x)) xs)
+
+  -- what is the same wherever it stands
+  pub locates-same : (of : B → A) → ((n : ℕ) (x : B) → S .locate n x ≡ of x) → (n : ℕ) (xs : List B) → locates n xs ≡ each of xs
+  locates-same of same n [] = refl
+  locates-same of same n (x ∷ xs) = rw (same n x, locates-same of same (n + length (S .bytes .print x)) xs)
 
   abbrev written : List B → List ℕ
   written xs = prints (S .bytes .print) xs

@@ -1,4 +1,4 @@
--- A text as a part of records and items (document 01, Records: a span is two words; Items to bytes): a name, an expression. Like a section, a part has
+-- A text as a part of records and items (document 01, Records: a span is two words; Items to bytes): a name, an expression, data. Like a section, a part has
 -- words, texts and bytes. Assumes nothing.
 use mathlib.Core.Path.{_≡_, refl, ap, _∙_}
 use mathlib.Core.List.{List, [], _∷_, _++_}
@@ -13,7 +13,7 @@ use Rattle.format.specs.Read.{read-on, begins}
 use Rattle.leb128.specs.Formats.{u32}
 use Rattle.names.specs.Name.{isName, name-exactly}
 use Rattle.exprs.specs.Laws.{expr}
-use Rattle.texts.specs.Text.{Kind, named, constant, sliceOf, long-in}
+use Rattle.texts.specs.Text.{Kind, named, constant, plain, sliceOf, long-in}
 use Rattle.texts.specs.Words.{span}
 use Rattle.texts.specs.Place.{spanAt, sizedAt}
 use Rattle.texts.specs.Allowed.{IsKind}
@@ -61,6 +61,13 @@ exprHolds = record { holds = λ q r b. held q b r refl refl; kind = λ b ok. ok;
 
 abbrev pub expression : Section Span (List ℕ)
 expression = text constant expr spanAt exprHolds
+
+-- data: its length and its bytes, which are any
+abbrev pub plainHolds : Holding plain (sized u32) sizedAt
+plainHolds = record { holds = λ q r b. sized-held q b r refl refl; kind = λ b ok. tt; ok = λ b i h. h }
+
+abbrev pub content : Section Span (List ℕ)
+content = text plain (sized u32) sizedAt plainHolds
 
 -- a span that was read of words, as an answer
 abbrev pub spanOf : Parsed Span → TextAt

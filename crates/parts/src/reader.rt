@@ -9,7 +9,7 @@ ghost use mathlib.Core.Path.{_≡_};
 ghost use Prim.Native.Nat.{_≤_};
 ghost use lib.ListN.{length, drop};
 ghost use Rattle.texts.specs.Place.{sizedAt, textAt};
-ghost use Rattle.parts.specs.Text.{name, nameBytes, expression};
+ghost use Rattle.parts.specs.Text.{name, nameBytes, expression, content};
 ghost use Rattle.parts.specs.Reading.{Reading, FoundReads};
 
 // Where a name stands: data that is UTF-8.
@@ -50,4 +50,11 @@ pub fn read_expr(b: &[u8], at: usize, out: &mut [u32], s: Done) -> Walk
     ensures { λ r. ⌜ Reading expression (now (b .entry)) at (now (out .entry)) s (now (out .exit)) r ⌝ }
 {
     append_found(find_expr(b, at), out, s)
+}
+
+pub fn read_data(b: &[u8], at: usize, out: &mut [u32], s: Done) -> Walk
+    requires { ⌜ length (now b) ≤ 65536 ⌝ }
+    ensures { λ r. ⌜ Reading content (now (b .entry)) at (now (out .entry)) s (now (out .exit)) r ⌝ }
+{
+    append_found(find_data(b, at), out, s)
 }

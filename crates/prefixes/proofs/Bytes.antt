@@ -13,10 +13,10 @@ use Rattle.format.specs.Parsed.{Parsed, fail, got, bind, map, map-same}
 use Rattle.format.specs.Leads.{LeadWalks, mark, mark-there, mark-missing, option, option-there, option-missing}
 use Rattle.format.specs.Alternatives.{opt}
 use Rattle.format.specs.Basic.{flag}
-use Rattle.format.specs.Count.{Adds, silent, adds-seq}
+use Rattle.format.specs.Count.{Appends, silent, adds-seq}
 use Rattle.format.specs.Read.{drop-more, too-few}
-use Rattle.format.specs.Steps.{nothing-there, value-there, Opens, opened}
-use Rattle.format.specs.Walk.{Walks, walked-as}
+use Rattle.format.specs.Dispatch.{Opens, opened}
+use Rattle.format.specs.Walk.{Walks, nothing-there, value-there, walks-as}
 use Rattle.format.specs.declared.Done.{Done}
 use Rattle.format.specs.declared.Walk.{Walk}
 use Rattle.format.specs.declared.Walk.the-variants as walks
@@ -59,18 +59,18 @@ module _ (w : List ℕ) (at : ℕ) (h : at < length w) where
 
 module _ {w : List ℕ} {at : ℕ} {old : List ℕ} {s : Done} {new : List ℕ} where
   -- k and an index, or neither
-  pub option-walk : {k : ℕ} {cur : List ℕ} {t : Done} {r : Walk} → getD w at 0 ≡ k → at < length w → Walks u32 (word .print) silent w (at + 1) cur t new r → Adds (1 ∷ []) 9 old s cur t
+  pub option-walk : {k : ℕ} {cur : List ℕ} {t : Done} {r : Walk} → getD w at 0 ≡ k → at < length w → Walks u32 (word .print) silent w (at + 1) cur t new r → Appends (1 ∷ []) old s cur t
       → LeadWalks (option k u32) (opt word .print) w at old s new r
   option-walk {k} e h x a = opened (record { name = some; reads = option-there k u32; writes = λ n. refl; draws = λ n. refl }) e h x a
 
-  pub option-gone : (k : ℕ) {cur : List ℕ} {t u : Done} → (getD w at 0 ≡ k → ⊥) → at < length w → Adds (0 ∷ []) 9 old s cur t → Adds (0 ∷ []) 9 cur t new u
+  pub option-gone : (k : ℕ) {cur : List ℕ} {t u : Done} → (getD w at 0 ≡ k → ⊥) → at < length w → Appends (0 ∷ []) old s cur t → Appends (0 ∷ []) cur t new u
       → LeadWalks (option k u32) (opt word .print) w at old s new (walks.Got at u)
   option-gone k n h a b = value-there {a = none} (adds-seq a b) (rw (drop-more w at h) (option-missing k u32 (getD w at 0) (drop (at + 1) w) n)) (omega arith)
 
-  pub mark-walk : {k : ℕ} {u : Done} → getD w at 0 ≡ k → at < length w → Adds (1 ∷ []) 9 old s new u → LeadWalks (mark k) (flag .print) w at old s new (walks.Got (at + 1) u)
+  pub mark-walk : {k : ℕ} {u : Done} → getD w at 0 ≡ k → at < length w → Appends (1 ∷ []) old s new u → LeadWalks (mark k) (flag .print) w at old s new (walks.Got (at + 1) u)
   mark-walk {k} e h a = value-there {a = true} a (rw (drop-more w at h, e) (mark-there k (drop (at + 1) w))) (omega arith)
 
-  pub mark-gone : (k : ℕ) {u : Done} → (getD w at 0 ≡ k → ⊥) → at < length w → Adds (0 ∷ []) 9 old s new u → LeadWalks (mark k) (flag .print) w at old s new (walks.Got at u)
+  pub mark-gone : (k : ℕ) {u : Done} → (getD w at 0 ≡ k → ⊥) → at < length w → Appends (0 ∷ []) old s new u → LeadWalks (mark k) (flag .print) w at old s new (walks.Got at u)
   mark-gone k n h a = value-there {a = false} a (rw (drop-more w at h) (mark-missing k (getD w at 0) (drop (at + 1) w) n)) (omega arith)
 
   -- supertypes of a final type
@@ -80,15 +80,11 @@ module _ {w : List ℕ} {at : ℕ} {old : List ℕ} {s : Done} {new : List ℕ} 
   pub some-none : at < length w → getD w at 0 ≡ 0 → Walks someSupers (λ xs. 1 ∷ listWords Index .print xs) silent w at old s new walks.No
   some-none h e = nothing-there (none-there w at h e)
 
-  pub some-walk : {cur : List ℕ} {t : Done} {r : Walk} → at < length w → (getD w at 0 ≡ 0 → ⊥) → Adds (1 ∷ []) 9 old s cur t → Walks (listBytes Index) (listWords Index .print) silent w at cur t new r
+  pub some-walk : {cur : List ℕ} {t : Done} {r : Walk} → at < length w → (getD w at 0 ≡ 0 → ⊥) → Appends (1 ∷ []) old s cur t → Walks (listBytes Index) (listWords Index .print) silent w at cur t new r
       → Walks someSupers (λ xs. 1 ∷ listWords Index .print xs) silent w at old s new r
-  some-walk {cur} {t} {r} h n a x =
-      record {
-        walked = walked-as (listWords Index .print) silent (λ xs. 1 ∷ listWords Index .print xs) silent (λ xs. xs) (1 ∷ []) 9 w (listBytes Index .parse (drop at w)) (someSupers .parse (drop at w)) old s cur t new r
-            (some-read w at h n ∙ map-same (listBytes Index .parse (drop at w))) (λ x q e. refl) (λ x. refl) a (x .walked);
-      }
+  some-walk h n a x = walks-as (λ xs. xs) (some-read w at h n ∙ map-same (listBytes Index .parse (drop at w))) (λ xs. refl) (λ xs. refl) a x
 
-  pub no-prefix : {cur : List ℕ} {t u : Done} → at < length w → (getD w at 0 ≡ 0x50 → ⊥) → (getD w at 0 ≡ 0x4F → ⊥) → Adds (1 ∷ []) 9 old s cur t → Adds (0 ∷ []) 9 cur t new u
+  pub no-prefix : {cur : List ℕ} {t u : Done} → at < length w → (getD w at 0 ≡ 0x50 → ⊥) → (getD w at 0 ≡ 0x4F → ⊥) → Appends (1 ∷ []) old s cur t → Appends (0 ∷ []) cur t new u
       → LeadWalks supersLead (supersWords .print) w at old s new (walks.Got at u)
   no-prefix h n m a b = value-there {a = (true, [])} (adds-seq a b) (rw (drop-more w at h, ne-eqb (getD w at 0) 0x50 n, ne-eqb (getD w at 0) 0x4F m)) (omega arith)
 

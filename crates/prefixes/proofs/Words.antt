@@ -7,22 +7,22 @@ use Prim.Native.Nat.{ℕ, _+_, _-_, _<_, _≤_}
 use native.Mathlib.Omega.{arith}
 use lib.ListN.{length, getD, drop}
 use borrow.Author.Tests.{lt-ltb, ne-eqb}
+use Rattle.format.specs.Sequence.{dep-known}
 use Rattle.format.specs.Parsed.{fail, got}
 use Rattle.format.specs.Basic.{flag, bit}
 use Rattle.format.specs.Alternatives.{opt}
 use Rattle.format.specs.Read.{drop-more, drop-two, none-read, one-read, too-few}
-use Rattle.format.specs.Count.{Adds, silent, adds-nil, adds-seq}
+use Rattle.format.specs.Count.{Appends, silent, adds-nil, adds-seq}
 use Rattle.format.specs.Leads.{mark, option}
-use Rattle.format.specs.Sequence.{walks-known}
-use Rattle.format.specs.Steps.{nothing-there, value-there, Opens, dep-opens}
-use Rattle.format.specs.Walk.{Walks}
+use Rattle.format.specs.Dispatch.{Opens, dep-opens}
+use Rattle.format.specs.Walk.{Walks, nothing-there, value-there, walks-read}
 use Rattle.format.specs.declared.Done.{Done}
 use Rattle.format.specs.declared.Walk.{Walk}
 use Rattle.format.specs.declared.Walk.the-variants as walks
 use Rattle.leb128.specs.Formats.{u32}
 use Rattle.leb128.specs.Leb.{uleb}
 use Rattle.texts.specs.Words.{word}
-use Rattle.texts.specs.Steps.{AreWords}
+use Rattle.texts.specs.WordWalks.{AreWords}
 use Rattle.lists.specs.Member.{listWords, listBytes}
 use Rattle.lists.specs.declared.Member.the-variants.{Index}
 use Rattle.prefixes.specs.Prefix.{supersWords, supersLead}
@@ -72,7 +72,7 @@ module _ {w : List ℕ} {at : ℕ} {old : List ℕ} {s : Done} {new : List ℕ} 
   supers-short h l = nothing-there (too-few supersWords 2 (omega arith) supers-long w at (omega arith))
 
   module _ (h : at < length w) (l : 2 ≤ length w - at) where
-    pub option-some : {k : ℕ} {cur : List ℕ} {t u : Done} → getD w at 0 ≡ 1 → Adds (k ∷ []) 9 old s cur t → Adds (uleb (getD w (at + 1) 0)) 9 cur t new u → AreWords w
+    pub option-some : {k : ℕ} {cur : List ℕ} {t u : Done} → getD w at 0 ≡ 1 → Appends (k ∷ []) old s cur t → Appends (uleb (getD w (at + 1) 0)) cur t new u → AreWords w
         → Walks (opt word) (option k u32 .print) silent w at old s new (walks.Got (at + 2) u)
     option-some e a b k = value-there {a = some (getD w (at + 1) 0)} (adds-seq a b) (rw (drop-two w at (omega arith), e, lt-ltb (getD w (at + 1) 0) _ (k (at + 1) .fits))) (omega arith)
 
@@ -83,11 +83,11 @@ module _ {w : List ℕ} {at : ℕ} {old : List ℕ} {s : Done} {new : List ℕ} 
     option-unused k e n = nothing-there (rw (drop-two w at (omega arith), e, ne-eqb (getD w (at + 1) 0) 0 n))
 
     -- final, with some supertypes
-    pub final-list : {cur : List ℕ} {t : Done} {r : Walk} → getD w at 0 ≡ 1 → (getD w (at + 1) 0 ≡ 0 → ⊥) → Adds (0x4F ∷ []) 9 old s cur t
+    pub final-list : {cur : List ℕ} {t : Done} {r : Walk} → getD w at 0 ≡ 1 → (getD w (at + 1) 0 ≡ 0 → ⊥) → Appends (0x4F ∷ []) old s cur t
         → Walks (listWords Index) (listBytes Index .print) silent w (at + 1) cur t new r → Walks supersWords (supersLead .print) silent w at old s new r
-    final-list {cur} {t} {r} e n a x =
-        walks-known flag (λ f. listWords Index) (supersLead .print) true (listBytes Index .print) (0x4F ∷ []) w at (at + 1) old s cur t new r (one-read flag true 1 tt refl w at h e)
-        (λ xs q i. some-print xs (not-empty w (at + 1) (omega arith) n xs q i)) a x
+    final-list e n a x =
+        walks-read (λ xs. (true, xs)) (dep-known flag (λ f. listWords Index) true (drop at w) (drop (at + 1) w) (one-read flag true 1 tt refl w at h e))
+        (λ xs q i. some-print xs (not-empty w (at + 1) (omega arith) n xs q i)) (λ xs. refl) a x
 
   pub supers-flag : at < length w → (getD w at 0 ≡ 0 → ⊥) → (getD w at 0 ≡ 1 → ⊥) → Walks supersWords (supersLead .print) silent w at old s new walks.No
   supers-flag h z o = nothing-there (rw (no-flag w at h z o))
@@ -95,7 +95,7 @@ module _ {w : List ℕ} {at : ℕ} {old : List ℕ} {s : Done} {new : List ℕ} 
   pub shared-flag : at < length w → (getD w at 0 ≡ 0 → ⊥) → (getD w at 0 ≡ 1 → ⊥) → Walks flag (mark 0x65 .print) silent w at old s new walks.No
   shared-flag h z o = nothing-there (no-flag w at h z o)
 
-  pub shared-there : {u : Done} → at < length w → getD w at 0 ≡ 1 → Adds (0x65 ∷ []) 9 old s new u → Walks flag (mark 0x65 .print) silent w at old s new (walks.Got (at + 1) u)
+  pub shared-there : {u : Done} → at < length w → getD w at 0 ≡ 1 → Appends (0x65 ∷ []) old s new u → Walks flag (mark 0x65 .print) silent w at old s new (walks.Got (at + 1) u)
   shared-there h e a = value-there {a = true} a (one-read flag true 1 tt refl w at h e) (omega arith)
 
 -- of which nothing is written

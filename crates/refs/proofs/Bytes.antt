@@ -1,127 +1,63 @@
 -- The bytes of heap and reference types at a place: by the first of them, what they are. Assumes nothing.
 use mathlib.Core.Path.{_≡_, refl, sym, ap, subst, _∙_}
 use mathlib.Core.Logic.{_⊎_, inl, inr}
-use mathlib.Core.Option.{Option}
+use mathlib.Core.Option.{Option, none, some}
 use mathlib.Core.Bool.{Bool, true, false}
-use mathlib.Core.List.{List, _∷_}
+use mathlib.Core.List.{List}
 use Prim.Native.Nat.{ℕ, _+_, _/_, _<_, _≤_}
 use native.Mathlib.Omega.{arith}
 use lib.ListN.{length, getD, drop}
-use borrow.Author.Tests.{lt-ltb, ne-eqb}
+use borrow.Author.Tests.{ne-eqb}
 use Rattle.format.specs.Parsed.{Parsed, fail, got, map, map-map, fromOption}
-use Rattle.format.specs.Basic.{find}
-use Rattle.format.specs.Read.{drop-more, drop-end, placeOf, rest-at}
-use Rattle.format.specs.Count.{Adds, silent}
-use Rattle.format.specs.Steps.{nothing-there, value-there}
-use Rattle.format.specs.Walk.{Walks}
+use Rattle.format.specs.Format.{Format}
+use Rattle.format.specs.Basic.{find, table-read}
+use Rattle.format.specs.Read.{drop-more, drop-end, placeOf, place-at, rest-at, reading}
+use Rattle.format.specs.Count.{Appends, silent}
+use Rattle.format.specs.Walk.{Walks, nothing-there, value-there}
 use Rattle.format.specs.declared.Done.{Done}
 use Rattle.format.specs.declared.Walk.the-variants as walks
 use Rattle.types.specs.Words.{refWords}
 use Rattle.types.specs.declared.HeapAt.{HeapAt}
-use Rattle.types.specs.declared.HeapAt.the-variants.{No}
+use Rattle.types.specs.declared.HeapAt.the-variants.{Is, No}
 use Rattle.types.specs.declared.RefAt.{RefAt}
 use Rattle.leb128.specs.Formats.{u32, index}
-use Rattle.types.specs.Abstract.{abstracts, byteOf, abstractByte}
-use Rattle.types.specs.Bytes.{Abs, absOf, absBytes, idxFrom, idxBytes, heapFrom, heapBytes, nullOf, nonNullOf, refFromSum, refBytes}
-use Rattle.types.specs.Answers.{heapAt, refAt, refPlaced}
+use Rattle.numbers.specs.Answers.{readU32}
+use Rattle.numbers.specs.Decoded.{number-missing, number-found, number-place}
+use Rattle.numbers.specs.declared.ReadU32.{ReadU32}
+use Rattle.numbers.specs.declared.ReadU32.the-variants as U32
+use Rattle.types.specs.Abstract.{abstracts, byteOf, byte-small, byte-full, abstractByte}
+use Rattle.types.specs.Bytes.{absOf, absBytes, idxFrom, idxBytes, heapBytes, refBytes}
+use Rattle.types.specs.Answers.{kindAns, kind-some, kind-none, heapAt, refAt, refPlaced}
 use Rattle.types.specs.declared.AbstractHeapType.{AbstractHeapType}
+use Rattle.types.specs.declared.AbstractRead.{AbstractRead}
+use Rattle.types.specs.declared.AbstractRead.the-variants as kinds
 use Rattle.types.specs.declared.HeapType.{HeapType}
 use Rattle.types.specs.declared.HeapType.the-variants.{Abstract}
 use Rattle.types.specs.declared.RefType.{RefType}
 use Rattle.types.specs.declared.RefAt.the-variants as places
 
--- ---- an abstract heap type
+-- ---- an abstract heap type, 65 before it where it is shared; and an index, 62 before it where it is exact
 
-shared-read : (l : List ℕ) → map absOf (absBytes .parse (0x65 ∷ l)) ≡ map (λ a. Abstract true a) (abstractByte .parse l)
-shared-read l = map-map absOf (λ a. (true, a)) (abstractByte .parse l)
+module _ (w : List ℕ) (at : ℕ) (h : at < length w) where
+  pub abs-shared : getD w at 0 ≡ 0x65 → map absOf (absBytes .parse (drop at w)) ≡ map (λ a. Abstract true a) (abstractByte .parse (drop (at + 1) w))
+  abs-shared e = rw (drop-more w at h, e) (simp map-map)
 
-unshared-read : (x : ℕ) (l : List ℕ) → (x ≡ 0x65 → ⊥) → map absOf (absBytes .parse (x ∷ l)) ≡ map (λ a. Abstract false a) (abstractByte .parse (x ∷ l))
-unshared-read x l n = rw (ne-eqb x 0x65 n) (map-map absOf (λ a. (false, a)) (abstractByte .parse (x ∷ l)))
+  pub abs-unshared : (getD w at 0 ≡ 0x65 → ⊥) → map absOf (absBytes .parse (drop at w)) ≡ map (λ a. Abstract false a) (abstractByte .parse (drop at w))
+  abs-unshared n = rw (drop-more w at h, ne-eqb (getD w at 0) 0x65 n) (simp map-map)
 
-byte-read : (x : ℕ) (l : List ℕ) → x < 256 → (o : Option AbstractHeapType) → find byteOf abstracts x ≡ o → abstractByte .parse (x ∷ l) ≡ fromOption o l
-byte-read x l h o e = rw (lt-ltb x 256 h, e)
+  pub idx-exact : getD w at 0 ≡ 0x62 → idxBytes .parse (drop at w) ≡ map inl (u32 .parse (drop (at + 1) w))
+  idx-exact e = rw (drop-more w at h, e)
 
-module _ (s : List ℕ) (at : ℕ) (h : at < length s) where
-  pub abs-shared : getD s at 0 ≡ 0x65 → map absOf (absBytes .parse (drop at s)) ≡ map (λ a. Abstract true a) (abstractByte .parse (drop (at + 1) s))
-  abs-shared e = ap (λ (l : List ℕ). map absOf (absBytes .parse l)) (drop-more s at h) ∙ rw e (shared-read (drop (at + 1) s))
-
-  pub byte-at : getD s at 0 < 256 → (o : Option AbstractHeapType) → find byteOf abstracts (getD s at 0) ≡ o → abstractByte .parse (drop at s) ≡ fromOption o (drop (at + 1) s)
-  byte-at k o e = ap (abstractByte .parse) (drop-more s at h) ∙ byte-read (getD s at 0) (drop (at + 1) s) k o e
-
-  pub abs-unshared : (getD s at 0 ≡ 0x65 → ⊥) → map absOf (absBytes .parse (drop at s)) ≡ map (λ a. Abstract false a) (abstractByte .parse (drop at s))
-  abs-unshared n =
-      ap (λ (l : List ℕ). map absOf (absBytes .parse l)) (drop-more s at h) ∙ unshared-read (getD s at 0) (drop (at + 1) s) n
-      ∙ ap (λ (l : List ℕ). map (λ a. Abstract false a) (abstractByte .parse l)) (sym (drop-more s at h))
-
-  -- ---- an index
-
-  pub idx-exact : getD s at 0 ≡ 0x62 → idxBytes .parse (drop at s) ≡ map inl (u32 .parse (drop (at + 1) s))
-  idx-exact e = ap (idxBytes .parse) (drop-more s at h) ∙ rw e
-
-  pub idx-concrete : (getD s at 0 ≡ 0x62 → ⊥) → idxBytes .parse (drop at s) ≡ map inr (index .parse (drop at s))
-  idx-concrete n = ap (idxBytes .parse) (drop-more s at h) ∙ rw (ne-eqb (getD s at 0) 0x62 n) (ap (λ (l : List ℕ). map inr (index .parse l)) (sym (drop-more s at h)))
-
--- ---- a heap type
-
-exact-fold : (m : Parsed ℕ) → map heapFrom (map inl m) ≡ map idxFrom (map inl m)
-exact-fold fail = refl
-exact-fold (got x r) = refl
-
-abs-fold : (m : Parsed Abs) → map heapFrom (map inr (map inl m)) ≡ map absOf m
-abs-fold fail = refl
-abs-fold (got p r) = refl
-
-concrete-fold : (m : Parsed ℕ) → map heapFrom (map inr (map inr m)) ≡ map idxFrom (map inr m)
-concrete-fold fail = refl
-concrete-fold (got x r) = refl
-
-module _ (s : List ℕ) (at : ℕ) (h : at < length s) where
-  pub heap-exact : getD s at 0 ≡ 0x62 → heapBytes .parse (drop at s) ≡ map idxFrom (idxBytes .parse (drop at s))
-  heap-exact e = ap (heapBytes .parse) (drop-more s at h) ∙ rw e (exact-fold (u32 .parse (drop (at + 1) s))) ∙ ap (map idxFrom) (sym (idx-exact s at h e))
-
-  pub heap-abstract : (getD s at 0 ≡ 0x62 → ⊥) → getD s at 0 / 64 ≡ 1 → heapBytes .parse (drop at s) ≡ map absOf (absBytes .parse (drop at s))
-  heap-abstract n e =
-      ap (heapBytes .parse) (drop-more s at h) ∙ rw (ne-eqb (getD s at 0) 0x62 n, e) (abs-fold (absBytes .parse (getD s at 0 ∷ drop (at + 1) s)))
-      ∙ ap (λ (l : List ℕ). map absOf (absBytes .parse l)) (sym (drop-more s at h))
-
-  pub heap-concrete : (getD s at 0 ≡ 0x62 → ⊥) → (getD s at 0 / 64 ≡ 1 → ⊥) → heapBytes .parse (drop at s) ≡ map idxFrom (idxBytes .parse (drop at s))
-  heap-concrete n m =
-      ap (heapBytes .parse) (drop-more s at h) ∙ rw (ne-eqb (getD s at 0) 0x62 n, ne-eqb (getD s at 0 / 64) 1 m) (concrete-fold (index .parse (getD s at 0 ∷ drop (at + 1) s)))
-      ∙ ap (λ (l : List ℕ). map idxFrom (map inr (index .parse l))) (sym (drop-more s at h)) ∙ ap (map idxFrom) (sym (idx-concrete s at h n))
-
--- ---- a reference
-
-non-null-fold : (m : Parsed HeapType) → map refFromSum (map inl m) ≡ map nonNullOf m
-non-null-fold fail = refl
-non-null-fold (got t r) = refl
-
-null-fold : (m : Parsed (ℕ ⊎ ℕ)) → map refFromSum (map inr (map inl m)) ≡ map nullOf (map idxFrom m)
-null-fold fail = refl
-null-fold (got t r) = refl
-
-alone-fold : (m : Parsed Abs) → map refFromSum (map inr (map inr m)) ≡ map nullOf (map absOf m)
-alone-fold fail = refl
-alone-fold (got t r) = refl
-
-module _ (s : List ℕ) (at : ℕ) (h : at < length s) where
-  pub ref-non-null : getD s at 0 ≡ 0x64 → refBytes .parse (drop at s) ≡ map nonNullOf (heapBytes .parse (drop (at + 1) s))
-  ref-non-null e = ap (refBytes .parse) (drop-more s at h) ∙ rw e (non-null-fold (heapBytes .parse (drop (at + 1) s)))
-
-  pub ref-null : getD s at 0 ≡ 0x63 → refBytes .parse (drop at s) ≡ map nullOf (map idxFrom (idxBytes .parse (drop (at + 1) s)))
-  ref-null e = ap (refBytes .parse) (drop-more s at h) ∙ rw e (null-fold (idxBytes .parse (drop (at + 1) s)))
-
-  pub ref-alone : (getD s at 0 ≡ 0x64 → ⊥) → (getD s at 0 ≡ 0x63 → ⊥) → refBytes .parse (drop at s) ≡ map nullOf (map absOf (absBytes .parse (drop at s)))
-  ref-alone n m =
-      ap (refBytes .parse) (drop-more s at h) ∙ rw (ne-eqb (getD s at 0) 0x64 n, ne-eqb (getD s at 0) 0x63 m) (alone-fold (absBytes .parse (getD s at 0 ∷ drop (at + 1) s)))
-      ∙ ap (λ (l : List ℕ). map nullOf (map absOf (absBytes .parse l))) (sym (drop-more s at h))
+  pub idx-concrete : (getD w at 0 ≡ 0x62 → ⊥) → idxBytes .parse (drop at w) ≡ map inr (index .parse (drop at w))
+  idx-concrete n = rw (drop-more w at h, ne-eqb (getD w at 0) 0x62 n)
 
 -- the answer for a reference, from that for a heap type
-pub placed-is : (s : List ℕ) (n : Bool) (m : Parsed HeapType) → refPlaced n (heapAt s m) ≡ refAt s (map (λ t. record { nullable = n; «heap_type» = t }) m)
+placed-is : (s : List ℕ) (n : Bool) (m : Parsed HeapType) → refPlaced n (heapAt s m) ≡ refAt s (map (λ t. record { nullable = n; «heap_type» = t }) m)
 placed-is s n fail = refl
 placed-is s n (got t r) = refl
 
 -- what an answer tells
-pub ref-told : (s : List ℕ) (at : ℕ) (r : RefType) (p : ℕ) → refAt s (refBytes .parse (drop at s)) ≡ places.Is r p → (refBytes .parse (drop at s) ≡ got r (drop p s)) × (p ≤ length s)
+ref-told : (s : List ℕ) (at : ℕ) (r : RefType) (p : ℕ) → refAt s (refBytes .parse (drop at s)) ≡ places.Is r p → (refBytes .parse (drop at s) ≡ got r (drop p s)) × (p ≤ length s)
 ref-told s at r p e = go (refBytes .parse (drop at s)) refl e
   where
     go : (m : Parsed RefType) → refBytes .parse (drop at s) ≡ m → refAt s m ≡ places.Is r p → (refBytes .parse (drop at s) ≡ got r (drop p s)) × (p ≤ length s)
@@ -132,42 +68,78 @@ ref-told s at r p e = go (refBytes .parse (drop at s)) refl e
         let ra = rest-at refBytes s at t l q in
         (q ∙ ap (λ (v : RefType). got v l) tr ∙ ap (λ (k : List ℕ). got r k) (ra .0 ∙ ap (λ (k : ℕ). drop k s) lp), subst (λ (k : ℕ). k ≤ length s) lp (ra .1))
 
-pub ref-told-not : (s : List ℕ) (m : Parsed RefType) → refAt s m ≡ places.No → m ≡ fail
+ref-told-not : (s : List ℕ) (m : Parsed RefType) → refAt s m ≡ places.No → m ≡ fail
 ref-told-not s fail e = refl
 ref-told-not s (got t l) e = let z : _≡_ {A = ℕ} 0 1 = cc in absurd (omega arith)
 
 -- ---- what the finders tell, by what was read: laws that leave out all that `search` finds
 
+module _ (w : List ℕ) (at : ℕ) (h : length w ≤ at) where
+  pub no-abs : No ≡ heapAt w (map absOf (absBytes .parse (drop at w)))
+  no-abs = rw (drop-end w at h)
+
+  pub no-idx : No ≡ heapAt w (map idxFrom (idxBytes .parse (drop at w)))
+  no-idx = rw (drop-end w at h)
+
+  pub no-heap : No ≡ heapAt w (heapBytes .parse (drop at w))
+  no-heap = rw (drop-end w at h)
+
+  pub no-ref : places.No ≡ refAt w (refBytes .parse (drop at w))
+  no-ref = rw (drop-end w at h)
+
+-- f is what `from_byte` told of the byte at p
+module _ (b : Bool) (w : List ℕ) (at p : ℕ) (e : map absOf (absBytes .parse (drop at w)) ≡ map (λ a. Abstract b a) (abstractByte .parse (drop p w))) where
+  pub abs-end : length w ≤ p → No ≡ heapAt w (map absOf (absBytes .parse (drop at w)))
+  abs-end h = rw (e, drop-end w p h)
+
+  module _ (h : p < length w) (f : AbstractRead) (d : f ≡ kindAns (find byteOf abstracts (getD w p 0))) where
+    byte-read : (o : Option AbstractHeapType) → find byteOf abstracts (getD w p 0) ≡ o → abstractByte .parse (drop p w) ≡ fromOption o (drop (p + 1) w)
+    byte-read o i = rw (drop-more w p h) (table-read 256 byteOf abstracts byte-small byte-full (getD w p 0) (drop (p + 1) w) o i)
+
+    pub abs-none : f ≡ kinds.No → No ≡ heapAt w (map absOf (absBytes .parse (drop at w)))
+    abs-none q = rw (e, byte-read none (kind-none (find byteOf abstracts (getD w p 0)) (sym d ∙ q)))
+
+    pub abs-is : (a : AbstractHeapType) → f ≡ kinds.Kind a → (n : ℕ) → p + 1 ≡ n → Is (Abstract b a) n ≡ heapAt w (map absOf (absBytes .parse (drop at w)))
+    abs-is a q n i = rw (e, byte-read (some a) (kind-some (find byteOf abstracts (getD w p 0)) a (sym d ∙ q)), place-at w (p + 1) (omega arith), i)
+
+pub add-two : (n : ℕ) → n + 1 + 1 ≡ n + 2
+add-two n = omega arith
+
+-- f is what was read as a number by N at p
+module _ (N : Format ℕ) (i : ℕ → ℕ ⊎ ℕ) (w : List ℕ) (at p : ℕ) (e : idxBytes .parse (drop at w) ≡ map i (N .parse (drop p w))) (f : ReadU32) (d : readU32 f ≡ reading 0 w (N .parse (drop p w))) where
+  pub idx-none : f ≡ U32.Nothing → No ≡ heapAt w (map idxFrom (idxBytes .parse (drop at w)))
+  idx-none q = rw (e, number-missing N w p f d q)
+
+  pub idx-is : (v n : ℕ) → f ≡ U32.Value v n → Is (idxFrom (i v)) n ≡ heapAt w (map idxFrom (idxBytes .parse (drop at w)))
+  idx-is v n q = rw (e, number-found N w p f d q, place-at w n (number-place N w p f d q))
+
+-- found is what was found as a heap type
 module _ (w : List ℕ) (at : ℕ) (k : at < length w) (found : HeapAt) where
   pub exact-found : getD w at 0 ≡ 0x62 → found ≡ heapAt w (map idxFrom (idxBytes .parse (drop at w))) → found ≡ heapAt w (heapBytes .parse (drop at w))
-  exact-found e d = d ∙ ap (heapAt w) (sym (heap-exact w at k e))
+  exact-found e d = d ∙ rw (drop-more w at k, e) (simp map-map)
 
   pub abstract-found : (getD w at 0 ≡ 0x62 → ⊥) → getD w at 0 / 64 ≡ 1 → found ≡ heapAt w (map absOf (absBytes .parse (drop at w))) → found ≡ heapAt w (heapBytes .parse (drop at w))
-  abstract-found n e d = d ∙ ap (heapAt w) (sym (heap-abstract w at k n e))
+  abstract-found n e d = d ∙ rw (drop-more w at k, ne-eqb (getD w at 0) 0x62 n, e) (simp map-map)
 
   pub concrete-found : (getD w at 0 ≡ 0x62 → ⊥) → (getD w at 0 / 64 ≡ 1 → ⊥) → found ≡ heapAt w (map idxFrom (idxBytes .parse (drop at w))) → found ≡ heapAt w (heapBytes .parse (drop at w))
-  concrete-found n m d = d ∙ ap (heapAt w) (sym (heap-concrete w at k n m))
+  concrete-found n m d = d ∙ rw (drop-more w at k, ne-eqb (getD w at 0) 0x62 n, ne-eqb (getD w at 0 / 64) 1 m) (simp map-map)
 
   module _ (r : RefAt) where
     pub non-null-found : getD w at 0 ≡ 0x64 → found ≡ heapAt w (heapBytes .parse (drop (at + 1) w)) → r ≡ refPlaced false found → r ≡ refAt w (refBytes .parse (drop at w))
-    non-null-found e d p = p ∙ ap (refPlaced false) d ∙ placed-is w false (heapBytes .parse (drop (at + 1) w)) ∙ ap (refAt w) (sym (ref-non-null w at k e))
+    non-null-found e d p = p ∙ ap (refPlaced false) d ∙ placed-is w false (heapBytes .parse (drop (at + 1) w)) ∙ rw (drop-more w at k, e) (simp map-map)
 
     pub null-found : getD w at 0 ≡ 0x63 → found ≡ heapAt w (map idxFrom (idxBytes .parse (drop (at + 1) w))) → r ≡ refPlaced true found → r ≡ refAt w (refBytes .parse (drop at w))
-    null-found e d p = p ∙ ap (refPlaced true) d ∙ placed-is w true (map idxFrom (idxBytes .parse (drop (at + 1) w))) ∙ ap (refAt w) (sym (ref-null w at k e))
+    null-found e d p = p ∙ ap (refPlaced true) d ∙ placed-is w true (map idxFrom (idxBytes .parse (drop (at + 1) w))) ∙ rw (drop-more w at k, e) (simp map-map)
 
     pub alone-found : (getD w at 0 ≡ 0x64 → ⊥) → (getD w at 0 ≡ 0x63 → ⊥) → found ≡ heapAt w (map absOf (absBytes .parse (drop at w))) → r ≡ refPlaced true found → r ≡ refAt w (refBytes .parse (drop at w))
-    alone-found n m d p = p ∙ ap (refPlaced true) d ∙ placed-is w true (map absOf (absBytes .parse (drop at w))) ∙ ap (refAt w) (sym (ref-alone w at k n m))
-
-pub no-heap : (w : List ℕ) (at : ℕ) → length w ≤ at → No ≡ heapAt w (heapBytes .parse (drop at w))
-no-heap w at h = rw (drop-end w at h)
-
-pub no-ref : (w : List ℕ) (at : ℕ) → length w ≤ at → places.No ≡ refAt w (refBytes .parse (drop at w))
-no-ref w at h = rw (drop-end w at h)
+    alone-found n m d p =
+        p ∙ ap (refPlaced true) d ∙ placed-is w true (map absOf (absBytes .parse (drop at w)))
+        ∙ rw (drop-more w at k, ne-eqb (getD w at 0) 0x64 n, ne-eqb (getD w at 0) 0x63 m) (simp map-map)
 
 module _ {w : List ℕ} {at : ℕ} {old : List ℕ} {s : Done} {new : List ℕ} {found : RefAt} where
   pub ref-missing : found ≡ refAt w (refBytes .parse (drop at w)) → found ≡ places.No → Walks refBytes (refWords .print) silent w at old s new walks.No
   ref-missing d e = nothing-there (ref-told-not w (refBytes .parse (drop at w)) (sym d ∙ e))
 
-  pub ref-there : {v : RefType} {p : ℕ} {u : Done} → found ≡ places.Is v p → found ≡ refAt w (refBytes .parse (drop at w)) → Adds (refWords .print v) 9 old s new u
+  pub ref-there : {v : RefType} {p : ℕ} {u : Done} → found ≡ places.Is v p → found ≡ refAt w (refBytes .parse (drop at w)) → Appends (refWords .print v) old s new u
       → Walks refBytes (refWords .print) silent w at old s new (walks.Got p u)
   ref-there {v} {p} e d a = let g = ref-told w at v p (sym d ∙ e) in value-there a (g .0) (g .1)

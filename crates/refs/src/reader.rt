@@ -12,7 +12,7 @@ use types::RefType;
 ghost use mathlib.Core.Path.{_≡_};
 ghost use lib.ListN.{drop};
 ghost use Rattle.format.specs.Basic.{bit as bitOf};
-ghost use Rattle.format.specs.Count.{Adds, silent};
+ghost use Rattle.format.specs.Count.{Appends, silent};
 ghost use Rattle.format.specs.Parsed.{map};
 ghost use Rattle.format.specs.Walk.{Walks};
 ghost use Rattle.types.specs.Words.{refTo, refWords};
@@ -139,7 +139,7 @@ pub fn head(r: RefType) -> u32
 
 // Words h and x.
 pub fn append_ref_words(r: RefType, out: &mut [u32], s: Done) -> Done
-    ensures { λ d. ⌜ Adds (refWords .print r) 9 (now (out .entry)) s (now (out .exit)) d ⌝ }
+    ensures { λ d. ⌜ Appends (refWords .print r) (now (out .entry)) s (now (out .exit)) d ⌝ }
 {
     let heap = r.heap_type;
     append_words(&[head(r), heap.index()], out, s)

@@ -7,13 +7,13 @@ use numbers::append_u32;
 use types::HeapType;
 use types::RefRead;
 use types::RefType;
-ghost use Rattle.format.specs.Count.{Adds, silent};
+ghost use Rattle.format.specs.Count.{Appends, silent};
 ghost use Rattle.format.specs.Walk.{Walks};
 ghost use Rattle.types.specs.Words.{refWords};
 ghost use Rattle.types.specs.Bytes.{heapBytes, refBytes};
 
 fn append_heap(t: HeapType, out: &mut [u8], s: Done) -> Done
-    ensures { λ r. ⌜ Adds (heapBytes .print t) 9 (now (out .entry)) s (now (out .exit)) r ⌝ }
+    ensures { λ r. ⌜ Appends (heapBytes .print t) (now (out .entry)) s (now (out .exit)) r ⌝ }
 {
     match t {
         HeapType::Abstract { shared, ty } => {
@@ -33,7 +33,7 @@ fn append_heap(t: HeapType, out: &mut [u8], s: Done) -> Done
 
 // Only an abstract heap type stands alone, and only where it is nullable.
 pub fn append_ref(r: RefType, out: &mut [u8], s: Done) -> Done
-    ensures { λ d. ⌜ Adds (refBytes .print r) 9 (now (out .entry)) s (now (out .exit)) d ⌝ }
+    ensures { λ d. ⌜ Appends (refBytes .print r) (now (out .entry)) s (now (out .exit)) d ⌝ }
 {
     let heap = r.heap_type;
     if r.nullable {

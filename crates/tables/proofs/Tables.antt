@@ -1,5 +1,5 @@
 -- How the walks over tables and their like are put together: by the first word, and by the first bytes. Assumes nothing.
-use mathlib.Core.Path.{_≡_, refl, sym, ap, _∙_}
+use mathlib.Core.Path.{_≡_, refl, ap}
 use mathlib.Core.Bool.{Bool, true, false}
 use mathlib.Core.List.{List, [], _∷_, append-nil}
 use Prim.Native.Nat.{ℕ, _+_, _-_, _<_, _≤_}
@@ -8,35 +8,35 @@ use lib.ListN.{length, getD, drop}
 use borrow.Author.Tests.{ne-eqb}
 use Rattle.format.specs.Parsed.{map}
 use Rattle.format.specs.Basic.{bit, flag}
-use Rattle.format.specs.Count.{Adds, silent, adds-seq}
+use Rattle.format.specs.Count.{Appends, silent, adds-seq}
 use Rattle.format.specs.Read.{reading, drop-more, drop-end, drop-two, one-read, none-read}
-use Rattle.format.specs.Sequence.{Joins, joins}
-use Rattle.format.specs.Steps.{nothing-there, nothing-left, value-there, Renames, second-follows}
+use Rattle.format.specs.Sequence.{Joins, joins, second-follows}
+use Rattle.format.specs.Dispatch.{Renames}
 use Rattle.format.specs.Told.{one-at}
-use Rattle.format.specs.Walk.{Walks, walked-as, no-walks, got-walks}
+use Rattle.format.specs.Walk.{Walks, nothing-there, nothing-left, value-there, not-found, gone}
 use Rattle.format.specs.declared.Done.{Done}
 use Rattle.format.specs.declared.Walk.{Walk}
 use Rattle.format.specs.declared.Walk.the-variants as walks
 use Rattle.leb128.specs.Formats.{u32}
 use Rattle.leb128.specs.Leb.{uleb}
 use Rattle.numbers.specs.Answers.{readU32}
-use Rattle.numbers.specs.Told.{number-missing, number-found, number-place}
+use Rattle.numbers.specs.Decoded.{number-missing, number-found, number-place}
 use Rattle.numbers.specs.declared.ReadU32.{ReadU32}
 use Rattle.numbers.specs.declared.ReadU32.the-variants as U32
-use Rattle.texts.specs.Steps.{AreWords, word-read}
+use Rattle.texts.specs.WordWalks.{AreWords, word-read}
 use Rattle.types.specs.Words.{refWords}
 use Rattle.types.specs.Bytes.{refBytes}
 use Rattle.types.specs.Vals.{unused, valWords, valBytes}
 use Rattle.limits.specs.Limits.{limitsWords, limitsBytes}
 use Rattle.parts.specs.Text.{expression}
-use Rattle.parts.specs.Both.{both, behind}
-use Rattle.parts.specs.Writing.{Writing, itemOf, lowOf, textless-writes, plain-missing, part-follows-plain, behind-writing}
-use Rattle.parts.specs.Reading.{Reading, recordAt, textless-reads, two-reads}
-use Rattle.parts.specs.Chosen.{chosen-writing}
+use Rattle.parts.specs.Both.{both}
+use Rattle.parts.specs.Writing.{Writing, textless-writes, textless-missing, follows-textless, behind-two}
+use Rattle.parts.specs.Reading.{Reading, textless-reads, two-reads}
+use Rattle.parts.specs.Chosen.{chosen-writing, chosen-reading}
 use Rattle.tables.specs.TableType.{memoryOf, memoryWords, memoryBytes, tableWords, tableBytes, table-agree, table-joins}
 use Rattle.tables.specs.GlobalType.{globalWords, globalBytes, global-joins}
 use Rattle.tables.specs.TagType.{exceptionOf, tagWords, tagBytes}
-use Rattle.tables.specs.Table.{TableOf, Table, tableType, bareWords, bare-agree, form, hasInit, bytes, tableSection}
+use Rattle.tables.specs.Table.{tableType, bareWords, bare-agree, form, hasInit, bytes, tableSection}
 
 -- ---- one behind the other
 
@@ -68,12 +68,12 @@ module _ {w : List ℕ} {at : ℕ} {old : List ℕ} {s : Done} {new : List ℕ} 
   unused-follows h e k = second-follows bare-walk h e (k new)
 
   pub bare-missing : Walks tableBytes (tableWords .print) silent w at old s new r → r ≡ walks.No → Walks tableBytes (bareWords .print) silent w at old s new walks.No
-  bare-missing h e = nothing-there (no-walks tableBytes (tableWords .print) silent w at old s new r h e)
+  bare-missing h e = nothing-there (not-found h e)
 
-  pub bare-there : {cur : List ℕ} {p : ℕ} {t u : Done} → Walks tableBytes (tableWords .print) silent w at old s cur r → r ≡ walks.Got p t → Adds (0 ∷ 0 ∷ []) 9 cur t new u
+  pub bare-there : {cur : List ℕ} {p : ℕ} {t u : Done} → Walks tableBytes (tableWords .print) silent w at old s cur r → r ≡ walks.Got p t → Appends (0 ∷ 0 ∷ []) cur t new u
       → Walks tableBytes (bareWords .print) silent w at old s new (walks.Got p u)
-  bare-there {cur} {p} {t} h e a =
-      let g = got-walks tableBytes (tableWords .print) silent w at old s cur r p t h e in
+  bare-there h e a =
+      let g = gone tableBytes h e in
       value-there (adds-seq (g .adds) a) (g .read) (g .place)
 
 -- ---- tags
@@ -86,10 +86,10 @@ module _ {w : List ℕ} {at : ℕ} (h : at < length w) where
     pub tag-missing : r ≡ U32.Nothing → Walks tagBytes (tagWords .print) silent w at old s new walks.No
     tag-missing e = nothing-there (rw (drop-more w at h, z, number-missing u32 w (at + 1) r d e))
 
-    pub tag-there : {x p : ℕ} {u : Done} → r ≡ U32.Value x p → Adds (x ∷ []) 9 old s new u → Walks tagBytes (tagWords .print) silent w at old s new (walks.Got p u)
+    pub tag-there : {x p : ℕ} {u : Done} → r ≡ U32.Value x p → Appends (x ∷ []) old s new u → Walks tagBytes (tagWords .print) silent w at old s new (walks.Got p u)
     tag-there {x} e a = value-there {a = exceptionOf x} a (rw (drop-more w at h, z, number-found u32 w (at + 1) r d e)) (number-place u32 w (at + 1) r d e)
 
-  pub tag-word : {old : List ℕ} {s : Done} {cur : List ℕ} {t : Done} {new : List ℕ} {u : Done} → Adds (0 ∷ []) 9 old s cur t → Adds (uleb (getD w at 0)) 9 cur t new u → AreWords w
+  pub tag-word : {old : List ℕ} {s : Done} {cur : List ℕ} {t : Done} {new : List ℕ} {u : Done} → Appends (0 ∷ []) old s cur t → Appends (uleb (getD w at 0)) cur t new u → AreWords w
       → Walks tagWords (tagBytes .print) silent w at old s new (walks.Got (at + 1) u)
   tag-word a b k = value-there {a = exceptionOf (getD w at 0)} (adds-seq a b) (ap (map exceptionOf) (word-read w at h k)) (omega arith)
 
@@ -100,8 +100,7 @@ module _ {t w : List ℕ} {at : ℕ} {old : List ℕ} {s : Done} {new : List ℕ
   words-empty h = record { writes = nothing-left h refl }
 
   form-word : (i : Bool) → at < length w → getD w at 0 ≡ bit i → {r : Walk} → Writing (form i) t w (at + 1) old s new r → Writing tableSection t w at old s new r
-  form-word i h e {r} x =
-      chosen-writing flag (λ i. tt) form bytes (λ x. (λ h. h, λ h. h)) (λ x. refl) i t w at (at + 1) old s new r (one-read flag i (bit i) tt refl w at h e) x
+  form-word i h e x = chosen-writing flag (λ i. tt) form bytes (λ x. (λ h. h, λ h. h)) (λ x. refl) i (one-read flag i (bit i) tt refl w at h e) x
 
   module _ (h : at < length w) {r : Walk} where
     pub bare-writes : getD w at 0 ≡ 0 → Walks bareWords (tableBytes .print) silent w (at + 1) old s new r → Writing tableSection t w at old s new r
@@ -114,17 +113,16 @@ module _ {t w : List ℕ} {at : ℕ} {old : List ℕ} {s : Done} {new : List ℕ
   no-form h n o = record { writes = nothing-there (rw (none-read flag bit (λ i. refl) w at h (elim [ false ↦ n | true ↦ o ]))) }
 
   -- 40 00, a table type, and the span of its initial value
-  module _ {o₁ o₂ : List ℕ} {s₁ s₂ : Done} (a : Adds (0x40 ∷ []) 9 old s o₁ s₁) (b : Adds (0x00 ∷ []) 9 o₁ s₁ o₂ s₂) where
+  module _ {o₁ o₂ : List ℕ} {s₁ s₂ : Done} (a : Appends (0x40 ∷ []) old s o₁ s₁) (b : Appends (0x00 ∷ []) o₁ s₁ o₂ s₂) where
     marked : {r′ : Walk} → Writing (both tableType expression) t w at o₂ s₂ new r′ → Writing (form true) t w at old s new r′
-    marked {r′} x =
-        behind-writing 0x40 (behind 0x00 (both tableType expression)) t w at old s o₁ s₁ new r′ a (behind-writing 0x00 (both tableType expression) t w at o₁ s₁ o₂ s₂ new r′ b x)
+    marked x = behind-two 0x40 0x00 (both tableType expression) a b x
 
     pub init-missing : {r : Walk} → Walks tableWords (tableBytes .print) silent w at o₂ s₂ new r → r ≡ walks.No → Writing (form true) t w at old s new walks.No
-    init-missing h e = marked (plain-missing tableWords tableBytes table-agree expression h e)
+    init-missing h e = marked (textless-missing tableWords tableBytes table-agree expression h e)
 
     pub init-there : {cur : List ℕ} {p : ℕ} {u : Done} {r r′ : Walk} → Walks tableWords (tableBytes .print) silent w at o₂ s₂ cur r → r ≡ walks.Got p u → Writing expression t w p cur u new r′
         → Writing (form true) t w at old s new r′
-    init-there h e k = marked (part-follows-plain tableWords tableBytes table-agree expression h e k)
+    init-there h e k = marked (follows-textless tableWords tableBytes table-agree expression h e k)
 
 -- ---- bytes of a table
 
@@ -132,18 +130,12 @@ module _ {b : List ℕ} {at : ℕ} {old : List ℕ} {s : Done} {new : List ℕ} 
   pub bytes-empty : length b ≤ at → Reading tableSection b at old s new walks.No
   bytes-empty k = record { reads = λ h. nothing-left k refl }
 
-  form-reads : (i : Bool) → hasInit (drop at b) ≡ i → {cur : List ℕ} {u : Done} {r : Walk} → Adds (bit i ∷ []) 9 old s cur u → Reading (form i) b at cur u new r
+  form-reads : (i : Bool) → hasInit (drop at b) ≡ i → {cur : List ℕ} {u : Done} {r : Walk} → Appends (bit i ∷ []) old s cur u → Reading (form i) b at cur u new r
       → Reading tableSection b at old s new r
-  form-reads i e {cur} {u} {r} a x =
-      record {
-        reads = λ h. record {
-          walked = walked-as (recordAt (form i) at) silent (recordAt tableSection at) silent (λ y. (i, y)) (bit i ∷ []) 9 b (form i .bytes .parse (drop at b)) (bytes .parse (drop at b)) old s cur u new r
-              (one-at hasInit (λ i. form i .bytes) i (drop at b) e) (λ y q p. refl) (λ y. refl) a (x .reads h .walked);
-        };
-      }
+  form-reads i e a x = chosen-reading flag (λ i. tt) form bytes (λ x. (λ h. h, λ h. h)) (λ x. refl) i (one-at hasInit (λ i. form i .bytes) i (drop at b) e) a x
 
   module _ (h : at < length b) where
-    pub bare-reads : {cur : List ℕ} {u : Done} {r : Walk} → (getD b at 0 ≡ 0x40 → ⊥) → Adds (0 ∷ []) 9 old s cur u → Walks tableBytes (bareWords .print) silent b at cur u new r
+    pub bare-reads : {cur : List ℕ} {u : Done} {r : Walk} → (getD b at 0 ≡ 0x40 → ⊥) → Appends (0 ∷ []) old s cur u → Walks tableBytes (bareWords .print) silent b at cur u new r
         → Reading tableSection b at old s new r
     bare-reads n a x = form-reads false (rw (drop-more b at h, ne-eqb (getD b at 0) 0x40 n)) a (textless-reads bareWords tableBytes bare-agree x)
 
@@ -155,7 +147,7 @@ module _ {b : List ℕ} {at : ℕ} {old : List ℕ} {s : Done} {new : List ℕ} 
         pub init-other : (getD b (at + 1) 0 ≡ 0 → ⊥) → Reading tableSection b at old s new walks.No
         init-other n = record { reads = λ l. nothing-there (rw (drop-two b at (omega arith), e, ne-eqb (getD b (at + 1) 0) 0 n)) }
 
-        pub init-reads : {cur : List ℕ} {u : Done} {r : Walk} → getD b (at + 1) 0 ≡ 0 → Adds (1 ∷ []) 9 old s cur u → Reading (both tableType expression) b (at + 2) cur u new r
+        pub init-reads : {cur : List ℕ} {u : Done} {r : Walk} → getD b (at + 1) 0 ≡ 0 → Appends (1 ∷ []) old s cur u → Reading (both tableType expression) b (at + 2) cur u new r
             → Reading tableSection b at old s new r
         init-reads {cur} {u} {r} z a x =
             form-reads true (rw (drop-more b at h, e)) a (two-reads 0x40 0x00 (both tableType expression) b at cur u new r (omega arith) e z x)

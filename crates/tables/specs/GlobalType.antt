@@ -1,6 +1,7 @@
 -- Global types (document 01, Records, Import, entity 3; Items to bytes, Table type; Core Specification 3.0, Binary Format, Types, Global Types): a value type,
 -- then mutable, 0 or 1. Shared globals are not built. Assumes nothing.
 use mathlib.Core.Path.{refl}
+use Rattle.format.specs.Count.{silent}
 use Rattle.format.specs.Format.{Format}
 use Rattle.format.specs.Basic.{flag}
 use Rattle.format.specs.Combine.{pair, iso}
@@ -25,5 +26,5 @@ global-agree g = pair-agree valWords valBytes flag flag val-agree (agree-same fl
 
 -- it is walked by walking the two, one behind the other
 abbrev pub global-joins : (F F′ : Format ValType)
-    → Joins (F .parse) (F′ .print) (λ a. 9) (flag .parse) (flag .print) (λ b. 9) (globalType F .parse) (globalType F′ .print) (λ c. 9)
+    → Joins (F .parse) (F′ .print) silent (flag .parse) (flag .print) silent (globalType F .parse) (globalType F′ .print) silent
 global-joins F F′ = joins F (F′ .print) flag (flag .print) (globalType F) (globalType F′ .print) (λ p. record { «val_type» = p .0; mutable = p .1 }) (λ s. refl) (λ a b. refl)

@@ -3,6 +3,7 @@
 use mathlib.Core.Path.{refl}
 use mathlib.Core.Bool.{false}
 use native.Mathlib.Omega.{arith}
+use Rattle.format.specs.Count.{silent}
 use Rattle.format.specs.Format.{Format}
 use Rattle.format.specs.Combine.{pair, iso}
 use Rattle.format.specs.Alternatives.{Heads, is, heads-pair, heads-iso}
@@ -44,7 +45,7 @@ table-heads =
 
 -- it is walked by walking the two, one behind the other
 abbrev pub table-joins : (R R′ : Format RefType) (L L′ : Format Limits)
-    → Joins (R .parse) (R′ .print) (λ a. 9) (L .parse) (L′ .print) (λ b. 9) (tableType R L .parse) (tableType R′ L′ .print) (λ c. 9)
+    → Joins (R .parse) (R′ .print) silent (L .parse) (L′ .print) silent (tableType R L .parse) (tableType R′ L′ .print) silent
 table-joins R R′ L L′ = joins R (R′ .print) L (L′ .print) (tableType R L) (tableType R′ L′ .print) tableOf (λ s. refl) (λ a b. refl)
 
 -- ---- memory types

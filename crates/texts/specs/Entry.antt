@@ -13,7 +13,7 @@ use Rattle.format.specs.Parsed.{Parsed, got, got-rest, fail-got}
 use Rattle.format.specs.Read.{same-place}
 use Rattle.format.specs.Write.{over}
 use Rattle.format.specs.Count.{counted, countIn, lowIn, has-start, has-count, has-lowest}
-use Rattle.format.specs.Walk.{Walks, Walked, no-walks, Gone, got-walks}
+use Rattle.format.specs.Walk.{Walks, Walked, Gone, not-found, gone}
 use Rattle.format.specs.declared.Done.{Done}
 use Rattle.format.specs.declared.Walk.{Walk}
 use Rattle.format.specs.declared.Walk.the-variants as walks
@@ -36,15 +36,15 @@ module _ {A : Type 0} (R : Records A) (w t : List ℕ) where
   module _ (old : List ℕ) (s : Done) (new : List ℕ) (r : Walk) (h : AddWalks old s new r) where
     pub no-record : r ≡ walks.No → why R w t ≡ 2
     no-record e =
-        let f = no-walks (R .words) (R .item t) (λ a. lowestOf t (R .texts a)) w 0 old s new r h e in
+        let f = not-found h e in
         none-is (λ a. fail-got (R .words .parse w) a [] f)
 
     -- what a walk that found a value says of it
-    gone : {p : ℕ} {u : Done} → r ≡ walks.Got p u → Gone (R .words) (R .item t) (λ a. lowestOf t (R .texts a)) w 0 old s new p u
-    gone {p} {u} e = got-walks (R .words) (R .item t) (λ a. lowestOf t (R .texts a)) w 0 old s new r p u h e
+    walk-gone : {p : ℕ} {u : Done} → r ≡ walks.Got p u → Gone (R .words) (R .item t) (λ a. lowestOf t (R .texts a)) w 0 old s new p u
+    walk-gone e = gone (R .words) h e
 
     pub words-left : {p : ℕ} {u : Done} → r ≡ walks.Got p u → (p ≡ length w → ⊥) → why R w t ≡ 2
-    words-left e n = let g = gone e in none-is (λ a q. n (same-place w (g .place) (omega arith) (got-rest (sym (g .read) ∙ q) ∙ sym (drop-length w))))
+    words-left e n = let g = walk-gone e in none-is (λ a q. n (same-place w (g .place) (omega arith) (got-rest (sym (g .read) ∙ q) ∙ sym (drop-length w))))
 
   -- ---- else they are a record's, and a walk from nothing on counts its item and finds the lowest refusal that its texts draw, if it is below the one that
   -- the walk starts with
@@ -58,7 +58,7 @@ module _ {A : Type 0} (R : Records A) (w t : List ℕ) where
   pub measured : (old : List ℕ) (s : Done) (new : List ℕ) (r : Walk) → AddWalks old s new r → {p : ℕ} {u : Done} → r ≡ walks.Got p u → p ≡ length w
       → length w ≤ wordsMost → {from : ℕ} → s .v ≡ from → from ≤ 9 → Measured from u
   measured old s new r h {p} {u} e all few {from} start low =
-      let g = gone old s new r h e in
+      let g = walk-gone old s new r h e in
       let end : drop p w ≡ [] = rw all (drop-length w) in
       let q : R .words .parse w ≡ got (g .value) [] = g .read ∙ ap (λ (l : List ℕ). got (g .value) l) end in
       let o = R .words .only w (g .value) [] q in

@@ -9,6 +9,7 @@ use native.Mathlib.Omega.{arith}
 use lib.Dec.{leb, ltb}
 use lib.ListN.{length, take, drop}
 use borrow.Author.Tests.{le-leb, leb-true, le-ltb, ltb-false}
+use Rattle.format.specs.Count.{noRefusal}
 use Rattle.format.specs.Parsed.{Parsed, fail, got, cond-inv}
 use Rattle.format.specs.Format.{Format}
 use Rattle.format.specs.Answers.{answer, NoneHolds, given-exactly, accepted-exactly, neither}
@@ -59,7 +60,7 @@ abbrev first : Bool → Bool → Bool → ℕ
 first a b c = answer ((3, a) ∷ (4, b) ∷ (5, c) ∷ (9, true) ∷ [])
 
 -- with one refusal more
-and-first : (a b c : Bool) → (min 3 (first a b c) ≡ 3) × (min 4 (first a b c) ≡ first a true c) × (min 5 (first a b c) ≡ first a b true) × (min 9 (first a b c) ≡ first a b c)
+and-first : (a b c : Bool) → (min 3 (first a b c) ≡ 3) × (min 4 (first a b c) ≡ first a true c) × (min 5 (first a b c) ≡ first a b true) × (min noRefusal (first a b c) ≡ first a b c)
 and-first true b c = (refl, refl, refl, refl)
 and-first false true c = (refl, refl, refl, refl)
 and-first false false true = (refl, refl, refl, refl)

@@ -2,7 +2,7 @@
 pub mod Text
 pub mod Plain
 pub mod Words
-pub mod Steps
+pub mod WordWalks
 pub mod Place
 pub mod Allowed
 pub mod Held

@@ -8,7 +8,7 @@ use numbers::ReadU32;
 ghost use mathlib.Core.Path.{_≡_};
 ghost use Prim.Native.Nat.{_≤_};
 ghost use lib.ListN.{length, drop};
-ghost use Rattle.format.specs.Count.{Adds};
+ghost use Rattle.format.specs.Count.{Appends};
 ghost use Rattle.format.specs.Sized.{sized};
 ghost use Rattle.leb128.specs.Formats.{u32};
 ghost use Rattle.exprs.specs.Laws.{expr};
@@ -50,7 +50,7 @@ pub fn find_expr(bytes: &[u8], at: usize) -> TextAt
 }
 
 pub fn append_span(v: Span, out: &mut [u32], s: Done) -> Done
-    ensures { λ r. ⌜ Adds (span .print v) 9 (now (out .entry)) s (now (out .exit)) r ⌝ }
+    ensures { λ r. ⌜ Appends (span .print v) (now (out .entry)) s (now (out .exit)) r ⌝ }
 {
     append_words(&[v.start, v.len], out, s)
 }

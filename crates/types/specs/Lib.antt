@@ -5,3 +5,4 @@ pub mod Bytes
 pub mod Vals
 pub mod Agree
 pub mod Answers
+pub mod TwoWords

@@ -5,15 +5,13 @@ use mathlib.Core.Logic.{_⊎_, inl, inr}
 use mathlib.Core.Option.{some}
 use mathlib.Core.Bool.{Bool, true, false, _||_}
 use mathlib.Core.List.{List, [], _∷_}
-use Prim.Native.Nat.{ℕ, _+_, _<_, _≤_}
+use Prim.Native.Nat.{ℕ, _<_, _≤_}
 use native.Mathlib.Omega.{arith}
 use lib.Dec.{lit<, ltb}
-use lib.ListN.{length, getD, drop}
 use borrow.Author.Tests.{lt-ltb, ne-eqb}
-use Rattle.format.specs.Parsed.{fail, got}
+use Rattle.format.specs.Count.{silent}
 use Rattle.format.specs.Format.{Format}
 use Rattle.format.specs.Basic.{find, table, tag, lit, flag}
-use Rattle.format.specs.Read.{drop-two}
 use Rattle.format.specs.Sequence.{Joins, joins}
 use Rattle.format.specs.Combine.{pair, iso}
 use Rattle.format.specs.Alternatives.{Heads, is, alt, heads-alt, heads-code, heads-tag}
@@ -30,17 +28,6 @@ use Rattle.types.specs.declared.FieldType.{FieldType}
 -- a code in a record, k, h and x with h and x unused: 0
 abbrev pub unused : Format (Unit {0})
 unused = tag 0 (lit 0)
-
--- at a place
-module _ (w : List ℕ) (at : ℕ) (h : at + 2 ≤ length w) where
-  pub unused-two : getD w at 0 ≡ 0 → getD w (at + 1) 0 ≡ 0 → unused .parse (drop at w) ≡ got tt (drop (at + 2) w)
-  unused-two p q = rw (drop-two w at h, p, q)
-
-  pub used-first : (getD w at 0 ≡ 0 → ⊥) → unused .parse (drop at w) ≡ fail
-  used-first n = rw (drop-two w at h, ne-eqb (getD w at 0) 0 n)
-
-  pub used-second : getD w at 0 ≡ 0 → (getD w (at + 1) 0 ≡ 0 → ⊥) → unused .parse (drop at w) ≡ fail
-  used-second p n = rw (drop-two w at h, p, ne-eqb (getD w (at + 1) 0) 0 n)
 
 abbrev pub coded : {A : Type 0} (code : A → ℕ) (l : List A) → ((a : A) → code a < 256) → ((a : A) → find code l (code a) ≡ some a) → Format A
 coded code l small full = iso (pair (table 256 code l small full) unused) (λ a. (a, tt)) (λ p. p .0) (λ a. refl) (λ p. refl)
@@ -227,5 +214,5 @@ fieldBytes = field storageBytes
 
 -- so it is walked by walking the two, one behind the other
 abbrev pub field-joins : (F G : Format StorageType)
-    → Joins (F .parse) (G .print) (λ a. 9) (flag .parse) (flag .print) (λ b. 9) (field F .parse) (field G .print) (λ c. 9)
+    → Joins (F .parse) (G .print) silent (flag .parse) (flag .print) silent (field F .parse) (field G .print) silent
 field-joins F G = joins F (G .print) flag (flag .print) (field F) (field G .print) (λ p. record { «element_type» = p .0; mutable = p .1 }) (λ s. refl) (λ a b. refl)

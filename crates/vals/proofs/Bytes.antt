@@ -1,112 +1,116 @@
--- The bytes of value and storage types at a place: by the first of them, what they are. Assumes nothing.
-use mathlib.Core.Path.{_≡_, refl, sym, ap, _∙_}
-use mathlib.Core.Logic.{inl, inr, ⊎-elim}
+-- Value, storage and field types in bytes: by the first of them, what they are. Assumes nothing.
+use mathlib.Core.Path.{_≡_, refl, ap, _∙_}
 use mathlib.Core.Option.{Option, none, some}
 use mathlib.Core.List.{List, [], _∷_, _++_}
-use Prim.Native.Nat.{ℕ, suc, _+_, _<_, _≤_}
-use native.Mathlib.Numerals.{add-one}
+use Prim.Native.Nat.{ℕ, _+_, _<_, _≤_}
 use native.Mathlib.Omega.{arith}
-use lib.Dec.{eqb}
-use lib.ListN.{length, getD, drop, List·getD-eq-default}
-use lib.Seq.{drop-cons}
+use lib.ListN.{length, getD, drop}
 use borrow.Author.Tests.{lt-ltb, le-ltb, ne-eqb}
-use Rattle.format.specs.Parsed.{fail, got, map, map-map, fromOption}
-use Rattle.format.specs.Basic.{find, find-only, find-none, flag, flag-at, flag-print, flag-large}
-use Rattle.format.specs.Read.{drop-more, drop-end}
+use Rattle.format.specs.Parsed.{got, map, map-map}
+use Rattle.format.specs.Format.{Format}
+use Rattle.format.specs.Basic.{find, find-only, find-none, flag, table-read}
+use Rattle.format.specs.Count.{Appends, silent, adds-nil, adds-eq}
+use Rattle.format.specs.Read.{drop-more}
 use Rattle.format.specs.Sequence.{dep-known}
-use Rattle.format.specs.Write.{fits-or}
+use Rattle.format.specs.Dispatch.{Opens, opened-bare}
+use Rattle.format.specs.Walk.{Walks, nothing-there, value-there, walks-as}
+use Rattle.format.specs.declared.Done.{Done}
+use Rattle.format.specs.declared.Walk.{Walk}
+use Rattle.format.specs.declared.Walk.the-variants as walks
+use Rattle.types.specs.Words.{refWords}
 use Rattle.types.specs.Bytes.{refBytes}
-use Rattle.types.specs.Vals.{Num, nums, numByte, numKind, numVal, valFrom, valBytes, valWords, i32, i64, f32, f64, v128, Packed, i8, i16, packeds, packedByte, packedKind, storageFrom, storageBytes, storageWords, fieldBytes, fieldWords}
+use Rattle.types.specs.Vals.{Num, nums, numByte, numKind, num-byte-small, num-byte-full, numVal, valBytes, valWords, i32, i64, f32, f64, v128, Packed, i8, i16, packeds, packedByte, packedKind, storageBytes, storageWords, fieldBytes, fieldWords}
 use Rattle.types.specs.Answers.{codeOr}
 use Rattle.types.specs.declared.ValType.the-variants.{Ref}
-use Rattle.types.specs.declared.StorageType.{StorageType}
 use Rattle.types.specs.declared.StorageType.the-variants.{I8, I16, Val}
+use Rattle.vals.proofs.Words.{code-found, code-missing}
+use Rattle.vals.proofs.Flags.{flag-missing, flag-behind}
 
--- ---- a value type
+-- ---- a type of one byte, x, whose kind in a record is k
 
-num-fold : (o : Option Num) (l : List ℕ) → map valFrom (map inr (fromOption o l)) ≡ map numVal (fromOption o l)
-num-fold none l = refl
-num-fold (some a) l = refl
+record OneByte {A : Type 0} (X Y : Format A) (x k : ℕ) : Type 0 where
+  value : A
+  read : (t : List ℕ) → X .parse (x ∷ t) ≡ got value t
+  words : k ∷ 0 ∷ 0 ∷ [] ≡ Y .print value
 
-module _ (s : List ℕ) (at : ℕ) (h : at < length s) where
-  pub val-ref : getD s at 0 < 0x7B → valBytes .parse (drop at s) ≡ map Ref (refBytes .parse (drop at s))
-  val-ref k =
-      ap (valBytes .parse) (drop-more s at h) ∙ rw (lt-ltb (getD s at 0) 0x7B k) (map-map valFrom inl (refBytes .parse (getD s at 0 ∷ drop (at + 1) s)))
-      ∙ ap (λ (l : List ℕ). map Ref (refBytes .parse l)) (sym (drop-more s at h))
+packed-one : (a : Packed) → OneByte storageBytes storageWords (packedByte a) (packedKind a)
+packed-one = elim [ i8 ↦ record { value = I8; read = λ t. refl; words = refl } | i16 ↦ record { value = I16; read = λ t. refl; words = refl } ]
 
-  pub val-num : 0x7B ≤ getD s at 0 → getD s at 0 < 256 → (o : Option Num) → find numByte nums (getD s at 0) ≡ o → valBytes .parse (drop at s) ≡ map numVal (fromOption o (drop (at + 1) s))
-  val-num k l o e =
-      ap (valBytes .parse) (drop-more s at h) ∙ rw (le-ltb (getD s at 0) 0x7B k, lt-ltb (getD s at 0) 256 l, e) (num-fold o (drop (at + 1) s))
+num-words : (a : Num) → numKind a ∷ 0 ∷ 0 ∷ [] ≡ valWords .print (numVal a)
+num-words = elim [ i32 ↦ refl | i64 ↦ refl | f32 ↦ refl | f64 ↦ refl | v128 ↦ refl ]
 
-  -- ---- a storage type
+num-one : (a : Num) → OneByte valBytes valWords (numByte a) (numKind a)
+num-one a = record { value = numVal a; read = reads a; words = num-words a }
+  where
+    reads : (a : Num) (t : List ℕ) → valBytes .parse (numByte a ∷ t) ≡ got (numVal a) t
+    reads = elim [ i32 ↦ λ t. refl | i64 ↦ λ t. refl | f32 ↦ λ t. refl | f64 ↦ λ t. refl | v128 ↦ λ t. refl ]
 
-  pub storage-val : (getD s at 0 ≡ 0x78 → ⊥) → (getD s at 0 ≡ 0x77 → ⊥) → storageBytes .parse (drop at s) ≡ map Val (valBytes .parse (drop at s))
-  storage-val n m =
-      ap (storageBytes .parse) (drop-more s at h) ∙ rw (ne-eqb (getD s at 0) 0x78 n, ne-eqb (getD s at 0) 0x77 m) (map-map storageFrom inr (valBytes .parse (getD s at 0 ∷ drop (at + 1) s)))
-      ∙ ap (λ (l : List ℕ). map Val (valBytes .parse l)) (sym (drop-more s at h))
-
--- ---- the kind of a number type
-
-pub num-kind-not : (a : Num) → numKind a ≡ 5 → ⊥
-num-kind-not = elim [ i32 ↦ λ e. omega arith | i64 ↦ λ e. omega arith | f32 ↦ λ e. omega arith | f64 ↦ λ e. omega arith | v128 ↦ λ e. omega arith ]
-
-num-print : (a : Num) → numKind a ∷ 0 ∷ 0 ∷ [] ≡ valWords .print (numVal a)
-num-print = elim [ i32 ↦ refl | i64 ↦ refl | f32 ↦ refl | f64 ↦ refl | v128 ↦ refl ]
-
-pub num-is : (k : ℕ) (o : Option Num) (a : Num) → k ≡ codeOr numKind 5 o → o ≡ some a → k ∷ 0 ∷ 0 ∷ [] ≡ valWords .print (numVal a)
-num-is k o a e f = rw (e, f) (num-print a)
-
--- past 7A a byte is no packed type's
-pub not-packed : (x y : ℕ) → 0x7B ≤ x → codeOr packedKind y (find packedByte packeds x) ≡ y
-not-packed x y h = rw (find-none packedByte packeds x (elim [ i8 ↦ λ e. omega arith | i16 ↦ λ e. omega arith ]))
-
--- ---- a storage type of one byte, x, and its kind, k
-
-pub record Plain (x k : ℕ) : Type 0 where
-  pub value : StorageType
-  pub read : (t : List ℕ) → storageBytes .parse (x ∷ t) ≡ got value t
-  pub words : k ∷ 0 ∷ 0 ∷ [] ≡ storageWords .print value
-
-packed-plain : (a : Packed) → Plain (packedByte a) (packedKind a)
-packed-plain = elim [ i8 ↦ record { value = I8; read = λ t. refl; words = refl } | i16 ↦ record { value = I16; read = λ t. refl; words = refl } ]
-
-num-plain : (a : Num) → Plain (numByte a) (numKind a)
-num-plain a = record { value = Val (numVal a); read = reads a; words = num-print a }
+num-stored : (a : Num) → OneByte storageBytes storageWords (numByte a) (numKind a)
+num-stored a = record { value = Val (numVal a); read = reads a; words = num-words a }
   where
     reads : (a : Num) (t : List ℕ) → storageBytes .parse (numByte a ∷ t) ≡ got (Val (numVal a)) t
     reads = elim [ i32 ↦ λ t. refl | i64 ↦ λ t. refl | f32 ↦ λ t. refl | f64 ↦ λ t. refl | v128 ↦ λ t. refl ]
 
-module _ (x k : ℕ) (e : k ≡ codeOr packedKind (codeOr numKind 5 (find numByte nums x)) (find packedByte packeds x)) where
-  pub plain-is : (k ≡ 5 → ⊥) → Plain x k
-  plain-is n = go (find packedByte packeds x) refl (find numByte nums x) refl
-    where
-      go : (p : Option Packed) → find packedByte packeds x ≡ p → (o : Option Num) → find numByte nums x ≡ o → Plain x k
-      go (some a) p o q = rw (find-only packedByte packeds x a p, e ∙ ap (codeOr packedKind _) p) (packed-plain a)
-      go none p (some a) q = let i : k ≡ numKind a = rw (e, p, q) in rw (find-only numByte nums x a q, i) (num-plain a)
-      go none p none q = absurd (n (rw (e, p, q)))
+-- and whether it is mutable
+field-opens : {x k : ℕ} → OneByte storageBytes storageWords x k → Opens x [] (flag .parse) (λ m. k ∷ 0 ∷ 0 ∷ flag .print m) silent (fieldBytes .parse) (fieldWords .print) silent
+field-opens {x} o =
+    record {
+      name = λ m. record { «element_type» = o .value; mutable = m };
+      reads = λ s. ap (map _) (dep-known storageBytes (λ v. flag) (o .value) (x ∷ s) s (o .read s)) ∙ map-map _ _ (flag .parse s);
+      writes = λ m. ap (λ (l : List ℕ). l ++ flag .print m) (o .words);
+      draws = λ m. refl;
+    }
 
-  -- else it is a value type's first
-  pub plain-not : k ≡ 5 → (x ≡ 0x78 → ⊥) × (x ≡ 0x77 → ⊥)
-  plain-not f = (λ p. let z : k ≡ 6 = rw (e, p) in omega arith, λ p. let z : k ≡ 7 = rw (e, p) in omega arith)
+-- ---- k is the kind that the byte at a place tells, 5 where it tells none
 
--- ---- a field: behind a storage type, whether it is mutable, m
+abbrev kindTold : ℕ → ℕ
+kindTold x = codeOr packedKind (codeOr numKind 5 (find numByte nums x)) (find packedByte packeds x)
 
-module _ (s : List ℕ) (at m : ℕ) (e : m ≡ getD s at 2) where
-  pub mutable-no : 1 < m → flag .parse (drop at s) ≡ fail
-  mutable-no h =
-      ⊎-elim (λ (k : length s ≤ at). rw (drop-end s at k))
-      (λ (k : at < length s). rw (drop-cons s at 2 k, ← e) (flag-large m (drop (suc at) s) h)) (fits-or (length s) at)
+pub no-plain : (x : ℕ) → (x ≡ 0x7F → ⊥) → (x ≡ 0x7E → ⊥) → (x ≡ 0x7D → ⊥) → (x ≡ 0x7C → ⊥) → (x ≡ 0x7B → ⊥) → (x ≡ 0x78 → ⊥) → (x ≡ 0x77 → ⊥) → 5 ≡ kindTold x
+no-plain x a b c d e f g =
+    rw (find-none numByte nums x (elim [ i32 ↦ a | i64 ↦ b | f32 ↦ c | f64 ↦ d | v128 ↦ e ]), find-none packedByte packeds x (elim [ i8 ↦ f | i16 ↦ g ]))
 
-  pub mutable-is : m ≤ 1 → (at < length s) × (flag .parse (drop at s) ≡ got (eqb m 1) (drop (at + 1) s))
-  mutable-is h =
-      ⊎-elim (λ (k : length s ≤ at). let z : m ≡ 2 = e ∙ List·getD-eq-default s 2 k in absurd (omega arith))
-      (λ (k : at < length s). (k, rw (add-one at, drop-cons s at 2 k, ← e) (flag-at m (drop (suc at) s) h))) (fits-or (length s) at)
+-- past 7A no packed type's
+not-packed : (x k : ℕ) → 0x7B ≤ x → k ≡ kindTold x → k ≡ codeOr numKind 5 (find numByte nums x)
+not-packed x k h e = e ∙ rw (find-none packedByte packeds x (elim [ i8 ↦ λ e. omega arith | i16 ↦ λ e. omega arith ]))
 
-pub field-plain : (s : List ℕ) (at k : ℕ) → at < length s → (p : Plain (getD s at 0) k)
-    → fieldBytes .parse (drop at s) ≡ map (λ m. record { «element_type» = p .value; mutable = m }) (flag .parse (drop (at + 1) s))
-field-plain s at k h p =
-    let e : storageBytes .parse (drop at s) ≡ got (p .value) (drop (at + 1) s) = rw (drop-more s at h) (p .read (drop (at + 1) s)) in
-    ap (map _) (dep-known storageBytes (λ v. flag) (p .value) (drop at s) (drop (at + 1) s) e) ∙ map-map _ _ (flag .parse (drop (at + 1) s))
+stored : (x k : ℕ) → k ≡ kindTold x → (k ≡ 5 → ⊥) → OneByte storageBytes storageWords x k
+stored x k e n = go (find packedByte packeds x) refl
+  where
+    go : (o : Option Packed) → find packedByte packeds x ≡ o → OneByte storageBytes storageWords x k
+    go none p = code-found numKind numByte nums 5 x k (rw (e, p)) (OneByte storageBytes storageWords) num-stored n
+    go (some a) p = let i : k ≡ packedKind a = rw (e, p) in rw (find-only packedByte packeds x a p, i) (packed-one a)
 
-pub field-words : (x k m : ℕ) (p : Plain x k) → m ≤ 1 → k ∷ 0 ∷ 0 ∷ m ∷ [] ≡ fieldWords .print (record { «element_type» = p .value; mutable = eqb m 1 })
-field-words x k m p h = ap (λ (l : List ℕ). l ++ (m ∷ [])) (p .words) ∙ ap (λ (l : List ℕ). storageWords .print (p .value) ++ l) (flag-print m h)
+module _ {w : List ℕ} {at : ℕ} {old : List ℕ} {s : Done} {new : List ℕ} (h : at < length w) where
+  pub ref-reads : {cur : List ℕ} {t : Done} {r : Walk} → getD w at 0 < 0x7B → Appends (5 ∷ []) old s cur t → Walks refBytes (refWords .print) silent w at cur t new r
+      → Walks valBytes (valWords .print) silent w at old s new r
+  ref-reads l a k = walks-as Ref (rw (drop-more w at h, lt-ltb (getD w at 0) 0x7B l) (simp map-map)) (λ r. refl) (λ r. refl) a k
+
+  module _ (k : ℕ) (e : k ≡ kindTold (getD w at 0)) where
+    module _ (l : 0x7B ≤ getD w at 0) where
+      pub no-num-byte : k ≡ 5 → Walks valBytes (valWords .print) silent w at old s new walks.No
+      no-num-byte q =
+          let m = code-missing numKind numByte nums 5 (getD w at 0) k (not-packed (getD w at 0) k l e) (elim [ i32 ↦ λ e. omega arith | i64 ↦ λ e. omega arith | f32 ↦ λ e. omega arith | f64 ↦ λ e. omega arith | v128 ↦ λ e. omega arith ]) q in
+          nothing-there (rw (drop-more w at h, le-ltb (getD w at 0) 0x7B l, table-read 256 numByte nums num-byte-small num-byte-full (getD w at 0) (drop (at + 1) w) none m))
+
+      pub num-there : {u : Done} → (k ≡ 5 → ⊥) → Appends (k ∷ 0 ∷ 0 ∷ []) old s new u → Walks valBytes (valWords .print) silent w at old s new (walks.Got (at + 1) u)
+      num-there n a =
+          let o = code-found numKind numByte nums 5 (getD w at 0) k (not-packed (getD w at 0) k l e) (OneByte valBytes valWords) num-one n in
+          value-there {a = o .value} (adds-eq (o .words) refl a) (rw (drop-more w at h) (o .read (drop (at + 1) w))) (omega arith)
+
+    -- a value type is a storage type
+    pub val-reads : {r : Walk} → k ≡ 5 → Walks valBytes (valWords .print) silent w at old s new r → Walks storageBytes (storageWords .print) silent w at old s new r
+    val-reads q x = walks-as Val (rw (drop-more w at h, ne-eqb (getD w at 0) 0x78 (not i8), ne-eqb (getD w at 0) 0x77 (not i16)) (simp map-map)) (λ v. refl) (λ v. refl) (adds-nil old s) x
+      where
+        not : (p : Packed) → getD w at 0 ≡ packedByte p → ⊥
+        not = elim [ i8 ↦ λ p. let z : k ≡ 6 = rw (e, p) in omega arith | i16 ↦ λ p. let z : k ≡ 7 = rw (e, p) in omega arith ]
+
+    -- else m is what stands behind it
+    module _ (n : k ≡ 5 → ⊥) (m : ℕ) (d : m ≡ getD w (at + 1) 2) where
+      pub not-mutable : 1 < m → Walks fieldBytes (fieldWords .print) silent w at old s new walks.No
+      not-mutable l = opened-bare (field-opens (stored (getD w at 0) k e n)) refl h (flag-missing w (at + 1) m d l)
+
+      pub field-there : {u : Done} → m ≤ 1 → Appends (k ∷ 0 ∷ 0 ∷ m ∷ []) old s new u → Walks fieldBytes (fieldWords .print) silent w at old s new (walks.Got (at + 2) u)
+      field-there l a =
+          let q : at + 1 + 1 ≡ at + 2 = omega arith in
+          rw q at (opened-bare (field-opens (stored (getD w at 0) k e n)) refl h (flag-behind w (at + 1) m d l (k ∷ 0 ∷ 0 ∷ []) a))

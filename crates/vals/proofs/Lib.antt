@@ -1,2 +1,3 @@
+pub mod Flags
 pub mod Words
 pub mod Bytes

@@ -8,14 +8,14 @@ ghost use mathlib.Core.Path.{_≡_};
 ghost use mathlib.Core.List.{[], _∷_};
 ghost use lib.ListN.{getD};
 ghost use Rattle.format.specs.Basic.{find, flag};
-ghost use Rattle.format.specs.Count.{Adds};
+ghost use Rattle.format.specs.Count.{Appends, silent};
 ghost use Rattle.format.specs.Walk.{Walks};
 ghost use Rattle.types.specs.Vals.{nums, numByte, numKind, packeds, packedByte, packedKind, valWords, valBytes, fieldWords, fieldBytes};
 ghost use Rattle.types.specs.Answers.{codeOr};
 
 // A kind, and two unused words.
 fn append_kind(k: u32, out: &mut [u32], s: Done) -> Done
-    ensures { λ r. ⌜ Adds (k ∷ 0 ∷ 0 ∷ []) 9 (now (out .entry)) s (now (out .exit)) r ⌝ }
+    ensures { λ r. ⌜ Appends (k ∷ 0 ∷ 0 ∷ []) (now (out .entry)) s (now (out .exit)) r ⌝ }
 {
     append_words(&[k, 0, 0], out, s)
 }
@@ -37,7 +37,7 @@ fn plain_kind(b: u8) -> u32
 }
 
 pub fn read_val(b: &[u8], at: usize, out: &mut [u32], s: Done) -> Walk
-    ensures { λ r. ⌜ Walks valBytes (valWords .print) (λ x. 9) (now (b .entry)) at (now (out .entry)) s (now (out .exit)) r ⌝ }
+    ensures { λ r. ⌜ Walks valBytes (valWords .print) silent (now (b .entry)) at (now (out .entry)) s (now (out .exit)) r ⌝ }
 {
     if b.len() <= at {
         return Walk::No;
@@ -65,7 +65,7 @@ fn mutable_at(b: &[u8], at: usize) -> u8
 }
 
 pub fn read_mutable(b: &[u8], at: usize, out: &mut [u32], s: Done) -> Walk
-    ensures { λ r. ⌜ Walks flag (flag .print) (λ x. 9) (now (b .entry)) at (now (out .entry)) s (now (out .exit)) r ⌝ }
+    ensures { λ r. ⌜ Walks flag (flag .print) silent (now (b .entry)) at (now (out .entry)) s (now (out .exit)) r ⌝ }
 {
     let m = mutable_at(b, at);
     if 1 < m {
@@ -76,7 +76,7 @@ pub fn read_mutable(b: &[u8], at: usize, out: &mut [u32], s: Done) -> Walk
 
 // Most storage types are one byte: their words and the field's last are appended at once.
 pub fn read_field(b: &[u8], at: usize, out: &mut [u32], s: Done) -> Walk
-    ensures { λ r. ⌜ Walks fieldBytes (fieldWords .print) (λ x. 9) (now (b .entry)) at (now (out .entry)) s (now (out .exit)) r ⌝ }
+    ensures { λ r. ⌜ Walks fieldBytes (fieldWords .print) silent (now (b .entry)) at (now (out .entry)) s (now (out .exit)) r ⌝ }
 {
     if b.len() <= at {
         return Walk::No;

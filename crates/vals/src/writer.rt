@@ -6,13 +6,14 @@ use refs::walk_ref;
 ghost use mathlib.Core.Path.{_≡_};
 ghost use mathlib.Core.List.{[], _∷_};
 ghost use Rattle.format.specs.Basic.{find, flag};
+ghost use Rattle.format.specs.Count.{silent};
 ghost use Rattle.format.specs.Walk.{Walks};
 ghost use Rattle.types.specs.Vals.{unused, nums, numKind, numByte, valWords, valBytes, storageWords, storageBytes, fieldWords, fieldBytes};
 ghost use Rattle.types.specs.Answers.{codeOr};
 
 // Two unused words, and the byte of a type that has no more.
 fn walk_unused(words: &[u32], at: usize, b: u8, out: &mut [u8], s: Done) -> Walk
-    ensures { λ r. ⌜ Walks unused (λ x. b ∷ []) (λ x. 9) (now (words .entry)) at (now (out .entry)) s (now (out .exit)) r ⌝ }
+    ensures { λ r. ⌜ Walks unused (λ x. b ∷ []) silent (now (words .entry)) at (now (out .entry)) s (now (out .exit)) r ⌝ }
 {
     if words.len() <= at {
         return Walk::No;
@@ -44,7 +45,7 @@ fn num_byte(k: u32) -> u8
 }
 
 pub fn walk_val(words: &[u32], at: usize, out: &mut [u8], s: Done) -> Walk
-    ensures { λ r. ⌜ Walks valWords (valBytes .print) (λ x. 9) (now (words .entry)) at (now (out .entry)) s (now (out .exit)) r ⌝ }
+    ensures { λ r. ⌜ Walks valWords (valBytes .print) silent (now (words .entry)) at (now (out .entry)) s (now (out .exit)) r ⌝ }
 {
     if words.len() <= at {
         return Walk::No;
@@ -61,7 +62,7 @@ pub fn walk_val(words: &[u32], at: usize, out: &mut [u8], s: Done) -> Walk
 }
 
 pub fn walk_storage(words: &[u32], at: usize, out: &mut [u8], s: Done) -> Walk
-    ensures { λ r. ⌜ Walks storageWords (storageBytes .print) (λ x. 9) (now (words .entry)) at (now (out .entry)) s (now (out .exit)) r ⌝ }
+    ensures { λ r. ⌜ Walks storageWords (storageBytes .print) silent (now (words .entry)) at (now (out .entry)) s (now (out .exit)) r ⌝ }
 {
     if words.len() <= at {
         return Walk::No;
@@ -78,7 +79,7 @@ pub fn walk_storage(words: &[u32], at: usize, out: &mut [u8], s: Done) -> Walk
 
 // Mutable or not: 0 or 1, as a word and as a byte.
 pub fn walk_mutable(words: &[u32], at: usize, out: &mut [u8], s: Done) -> Walk
-    ensures { λ r. ⌜ Walks flag (flag .print) (λ x. 9) (now (words .entry)) at (now (out .entry)) s (now (out .exit)) r ⌝ }
+    ensures { λ r. ⌜ Walks flag (flag .print) silent (now (words .entry)) at (now (out .entry)) s (now (out .exit)) r ⌝ }
 {
     if words.len() <= at {
         return Walk::No;
@@ -91,7 +92,7 @@ pub fn walk_mutable(words: &[u32], at: usize, out: &mut [u8], s: Done) -> Walk
 }
 
 pub fn walk_field(words: &[u32], at: usize, out: &mut [u8], s: Done) -> Walk
-    ensures { λ r. ⌜ Walks fieldWords (fieldBytes .print) (λ x. 9) (now (words .entry)) at (now (out .entry)) s (now (out .exit)) r ⌝ }
+    ensures { λ r. ⌜ Walks fieldWords (fieldBytes .print) silent (now (words .entry)) at (now (out .entry)) s (now (out .exit)) r ⌝ }
 {
     let Walk::Got(p, t) = walk_storage(words, at, out, s) else {
         return Walk::No;

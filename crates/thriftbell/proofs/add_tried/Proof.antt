@@ -19,7 +19,7 @@ use Rattle.thriftbell.proofs.add_tried.Tie as tie
 -- the record draws nothing
 good : (k : tie.After-length) → let a = k .before .before .before .before .before .before .before .before .before .before .before .before .args in let n = k .length .given .0 .0 in
     (why records (now (a .words)) (now (a .text)) ≡ 0) × (length (itemIn records (now (a .words)) (now (a .text))) ≡ n) × (n ≤ itemMost)
-good k = let a = k .before .before .before .before .before .before .before .before .before .before .before .before .args in told-length (now (a .words)) (now (a .text)) (k .length .given .0 .0) (sym (k .before .before .before .before .judge .ensures .0) ∙ k .length .given .1)
+good k = let a = k .before .before .before .before .before .before .before .before .before .before .before .before .args in told-length (now (a .words)) (now (a .text)) (k .length .given .0 .0) (sym (k .before .before .before .before .judge .ensures .is) ∙ k .length .given .1)
 
 first : (k : tie.After-length) → let w = now (k .before .before .before .before .before .before .before .before .before .before .before .before .args .words) in (0 < length w) × (getD w 0 0 ≡ idOf (sectionIn w))
 first k = let a = k .before .before .before .before .before .before .before .before .before .before .before .before .args in first-word (now (a .words)) (now (a .text)) (good k .0)
@@ -37,7 +37,7 @@ returns-3 c =
     let w = now (a .words) in
     let t = now (a .text) in
     let n = k .k .given .0 .0 in
-    let d = told-refused w t n (sym (k .before .before .before .before .judge .ensures .0) ∙ k .k .given .1) in
+    let d = told-refused w t n (sym (k .before .before .before .before .judge .ensures .is) ∙ k .k .given .1) in
     drawn (a .state .used) (now (a .store)) w t (k .before .before .before .before .before .before .before .if1 .left) (k .before .before .before .before .before .before .if2 .left) n (d .1) (d .0)
 
 returns-4 : tie.Need-returns-4
@@ -59,7 +59,7 @@ returns-5 c =
     let g = good k in
     let h = c .before .before .before .before .before .before .before .put-head in
     let j = k .before .before .before .before .judge in
-    let tried = judged-tried w t (k .length .given .0 .0) _ _ (g .0) (g .1) (j .kept .1 .1 .0) (j .ensures .1) in
+    let tried = judged-tried w t (k .length .given .0 .0) _ _ (g .0) (g .1) (j .kept .1 .1 .0) (j .ensures .puts) in
     let head : Writes (headBytes (idOf (sectionIn w)) (length item)) (midOf at (length xs - at) xs) (h .last .1 .1 .0) (h .result) = rw (first k .1, sym (g .1)) at (h .ensures) in
     let ys = putMid at (length xs - at) xs (h .last .1 .1 .0) in
     let long : length ys ≡ length xs = same-len-mid at (length xs - at) xs (h .last .1 .1 .0) (h .kept .1 .1 .0) in

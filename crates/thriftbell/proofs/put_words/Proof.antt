@@ -6,7 +6,7 @@ use native.Mathlib.Omega.{arith}
 use lib.ListN.{length, take, drop}
 use denote.Ref.{now}
 use Rattle.format.specs.Write.{wrote, writes-as}
-use Rattle.format.specs.Count.{Adds, adds-fresh}
+use Rattle.format.specs.Count.{Appends, silent, adds-fresh}
 use Rattle.format.specs.Parsed.{Parsed, got}
 use Rattle.format.specs.Walk.{Walked}
 use Rattle.format.specs.declared.Done.{Done}
@@ -21,8 +21,8 @@ front : (s : List ℕ) (n : ℕ) → take (n - 0) (drop 0 s) ≡ take n s
 front s n = let z : n - 0 ≡ n = omega arith in rw z
 
 adds-of : (b : List ℕ) (m : Parsed Item) (x : Item) (t old : List ℕ) (s : Done) (new : List ℕ) (r : Walk) → m ≡ got x t
-    → Walked recordOf (λ x. 9) b m old s new r → (u : Done) × Adds (recordOf x) 9 old s new u
-adds-of b m x t old s new r e h = let k = subst (λ (p : Parsed Item). Walked recordOf (λ x. 9) b p old s new r) e h in (k .0, k .2)
+    → Walked recordOf silent b m old s new r → (u : Done) × Appends (recordOf x) old s new u
+adds-of b m x t old s new r e h = let k = subst (λ (p : Parsed Item). Walked recordOf silent b p old s new r) e h in (k .0, k .2)
 
 returns : tie.Need-returns
 returns c =
@@ -33,7 +33,7 @@ returns-2 : tie.Need-returns-2
 returns-2 c =
     let a = c .before .before .before .before .before .before .before .before .before .args in
     λ x r e long tried few room.
-    let k = adds-of (now (a .front)) _ x r (now (a .out)) _ _ _ e (c .before .before .walk-bytes .ensures) in
+    let k = adds-of (now (a .front)) _ x r (now (a .out)) _ _ _ e (c .before .before .walk-bytes .ensures .walked) in
     adds-fresh (k .1) (c .before .before .before .new .ensures) (omega arith) .bytes (omega (arith, long, few)) (omega (arith, long, room))
 
 pub put-words-spec : {M : Type 1} → statement M

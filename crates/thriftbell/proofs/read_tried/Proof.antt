@@ -7,10 +7,10 @@ use native.Mathlib.Omega.{arith}
 use lib.ListN.{length, take, drop}
 use lib.Seq.{take-all, take-at}
 use denote.Ref.{now}
-use Rattle.format.specs.Count.{Has, has-count, adds-fresh}
+use Rattle.format.specs.Count.{silent, Has, has-count, adds-fresh}
 use Rattle.format.specs.Parsed.{got}
 use Rattle.format.specs.Read.{placeOf}
-use Rattle.format.specs.Walk.{walked-no, walked-got}
+use Rattle.format.specs.Walk.{not-found, was-found}
 use Rattle.format.specs.declared.Done.{Done}
 use Rattle.texts.specs.Judge.{wordsMost}
 use Rattle.items.specs.Record.{Item, beginsIn, recordOf}
@@ -36,7 +36,7 @@ item : (k : tie.After-end) → let a = k .before .before .before .before .before
 item k =
     let a = k .before .before .before .before .before .before .before .before .before .before .args in
     let b = now (a .front) in
-    let q = walked-got recordOf (λ x. 9) b _ _ _ _ (beginsIn (a .id) b) (k .end .given .0 .0) (k .end .given .0 .1 .0) (k .before .before .before .before .walk-bytes .ensures) (k .end .given .1) in
+    let q = was-found (k .before .before .before .before .walk-bytes .ensures) (k .end .given .1) in
     record { value = q .value; rest = q .rest; is = q .is; place = q .place; old = _; has = adds-fresh (q .adds) (k .before .before .before .before .before .new .ensures) (omega arith) }
 
 -- how many words it has: as many as were counted, where that is few enough
@@ -60,7 +60,7 @@ returns : tie.Need-returns
 returns c =
     let a = c .before .before .before .before .before .before .before .before .before .before .args in
     let b = now (a .front) in
-    let e = walked-no recordOf (λ x. 9) b _ _ _ _ (beginsIn (a .id) b) (c .before .before .before .before .walk-bytes .ensures) (c .enum-told .given .1) in
+    let e = not-found (c .before .before .before .before .walk-bytes .ensures) (c .enum-told .given .1) in
     none-read (a .id) b (now (a .out)) (none-begins (a .id) b (now (a .out)) (ap (beginsIn (a .id)) (all-of (c .before .before .before .before .before .before .before .before .before .before)) ∙ e))
 
 returns-2 : tie.Need-returns-2

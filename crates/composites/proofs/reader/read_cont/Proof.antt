@@ -1,6 +1,6 @@
 -- `composites::reader::read_cont` meets its contract. Assumes nothing.
 use Rattle.leb128.specs.Formats.{index}
-use Rattle.numbers.specs.Told.{number-not-there, number-there}
+use Rattle.numbers.specs.Decoded.{no-number, one-number}
 use borrow.Author.Needs.{needs}
 use Rattle.composites.proofs.reader.read_cont.Statement.{statement}
 use Rattle.composites.proofs.reader.read_cont.Tie as tie
@@ -12,7 +12,7 @@ read-cont-spec =
     (λ c κs. search needs)
     (λ c. search needs)
     (λ c. search needs)
-    (λ c. search (number-not-there index))
+    (λ c. search (no-number index))
     (λ c κs. search needs)
     (λ c. search needs)
-    (λ c. search (number-there index)))
+    (λ c. search (one-number index)))

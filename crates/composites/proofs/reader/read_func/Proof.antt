@@ -1,5 +1,5 @@
 -- `composites::reader::read_func` meets its contract: the parameters, and then the results. Assumes nothing.
-use Rattle.format.specs.Steps.{first-missing, second-follows}
+use Rattle.format.specs.Sequence.{first-missing, second-follows}
 use Rattle.composites.proofs.Inner.{func-read}
 use borrow.Author.Needs.{needs}
 use Rattle.composites.proofs.reader.read_func.Statement.{statement}

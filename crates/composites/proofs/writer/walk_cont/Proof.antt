@@ -1,6 +1,6 @@
 -- `composites::writer::walk_cont` meets its contract. Assumes nothing.
-use Rattle.format.specs.Steps.{nothing-left}
-use Rattle.texts.specs.Steps.{word-there}
+use Rattle.format.specs.Walk.{nothing-left}
+use Rattle.texts.specs.WordWalks.{one-word}
 use borrow.Author.Needs.{needs}
 use Rattle.composites.proofs.writer.walk_cont.Statement.{statement}
 use Rattle.composites.proofs.writer.walk_cont.Tie as tie
@@ -15,4 +15,4 @@ walk-cont-spec =
     (λ c. search needs)
     (λ c κs. search needs)
     (λ c. search needs)
-    (λ c. search word-there))
+    (λ c. search one-word))

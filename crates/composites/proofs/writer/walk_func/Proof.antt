@@ -1,5 +1,5 @@
 -- `composites::writer::walk_func` meets its contract: the parameters, and then the results. Assumes nothing.
-use Rattle.format.specs.Steps.{first-missing, second-follows}
+use Rattle.format.specs.Sequence.{first-missing, second-follows}
 use Rattle.composites.proofs.Inner.{func-walk}
 use borrow.Author.Needs.{needs}
 use Rattle.composites.proofs.writer.walk_func.Statement.{statement}

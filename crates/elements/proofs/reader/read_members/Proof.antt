@@ -1,8 +1,7 @@
 -- `elements::reader::read_members` meets its contract: the loop has walked some members, and the others are left. Assumes nothing.
 use Rattle.format.specs.Loop.{loop-starts, loop-done}
 use Rattle.parts.specs.Text.{expression}
-use Rattle.parts.specs.Reading.{ReadingOn}
-use Rattle.parts.specs.Steps.{reading-stops, reading-goes-on}
+use Rattle.parts.specs.ListWalks.{reading-stops, reading-goes-on, ReadingOn}
 use borrow.Author.Needs.{needs}
 use Rattle.elements.proofs.reader.read_members.Statement.{statement}
 use Rattle.elements.proofs.reader.read_members.Tie as tie

@@ -1,5 +1,5 @@
 -- `elements::writer::walk_elements` meets its contract: by the kind. Assumes nothing.
-use Rattle.format.specs.Steps.{nothing-left}
+use Rattle.format.specs.Walk.{nothing-left}
 use Rattle.elements.proofs.Elements.{functions-kind, expressions-kind, no-kind}
 use borrow.Author.Needs.{needs}
 use Rattle.elements.proofs.writer.walk_elements.Statement.{statement}

@@ -1,7 +1,7 @@
 -- `elements::writer::walk_exprs` meets its contract: the count, and then so many expressions. Assumes nothing.
 use Rattle.parts.specs.Text.{expression}
-use Rattle.texts.specs.Steps.{word-fits}
-use Rattle.parts.specs.Steps.{list-not-there, list-larger, list-writes}
+use Rattle.texts.specs.WordWalks.{word-fits}
+use Rattle.parts.specs.ListWalks.{list-not-there, list-larger, list-writes}
 use Rattle.elements.proofs.Lists.{word-each}
 use borrow.Author.Needs.{needs}
 use Rattle.elements.proofs.writer.walk_exprs.Statement.{statement}
@@ -11,16 +11,16 @@ pub walk-exprs-spec : {M : Type 1} → statement M
 walk-exprs-spec =
     tie.close
     (tie.spec
-    (λ c. search (list-not-there expression))
+    (λ c. search (list-not-there expression word-each))
     (λ c. search needs)
     (λ c. search needs)
     (λ c. search needs)
     (λ c. search needs)
     (λ c. search word-fits)
-    (λ c. search (list-larger expression, word-each))
+    (λ c. search (list-larger expression word-each))
     (λ c κs. search needs)
     (λ c. search needs)
     (λ c. search needs)
     (λ c κs. search needs)
     (λ c. search needs)
-    (λ c. search (list-writes expression)))
+    (λ c. search (list-writes expression word-each)))

@@ -1,8 +1,7 @@
 -- `elements::writer::walk_members` meets its contract: the loop has walked some members, and the others are left. Assumes nothing.
 use Rattle.format.specs.Loop.{loop-starts, loop-done}
 use Rattle.parts.specs.Text.{expression}
-use Rattle.parts.specs.Writing.{WritingOn}
-use Rattle.parts.specs.Steps.{writing-stops, writing-goes-on}
+use Rattle.parts.specs.ListWalks.{writing-stops, writing-goes-on, WritingOn}
 use borrow.Author.Needs.{needs}
 use Rattle.elements.proofs.writer.walk_members.Statement.{statement}
 use Rattle.elements.proofs.writer.walk_members.Tie as tie

@@ -1,6 +1,6 @@
 -- `groups::reader::walk_bytes` meets its contract: a group, or a type alone. Assumes nothing.
-use Rattle.format.specs.Steps.{nothing-left, opened}
-use Rattle.groups.proofs.Groups.{group-read, single-read}
+use Rattle.format.specs.Walk.{nothing-left}
+use Rattle.groups.proofs.Groups.{group-reads, single-reads}
 use borrow.Author.Needs.{needs}
 use Rattle.groups.proofs.reader.walk_bytes.Statement.{statement}
 use Rattle.groups.proofs.reader.walk_bytes.Tie as tie
@@ -15,9 +15,9 @@ walk-bytes-spec =
     (λ c. search needs)
     (λ c κs. search needs)
     (λ c. search needs)
-    (λ c. search (opened group-read))
+    (λ c. search group-reads)
     (λ c κs. search needs)
     (λ c κs. search needs)
     (λ c κs. search needs)
     (λ c. search needs)
-    (λ c. search single-read))
+    (λ c. search single-reads))

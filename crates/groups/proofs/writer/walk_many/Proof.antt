@@ -1,7 +1,7 @@
 -- `groups::writer::walk_many` meets its contract: the count, and then so many subtypes. Assumes nothing.
-use Rattle.format.specs.Steps.{nothing-left}
-use Rattle.texts.specs.Steps.{word-fits, large-count, then-members}
-use Rattle.groups.proofs.Groups.{many-walk}
+use Rattle.texts.specs.WordWalks.{word-fits}
+use Rattle.parts.specs.ListWalks.{list-not-there, list-larger, list-writes}
+use Rattle.groups.specs.RecGroup.{subType, sub-words-long}
 use borrow.Author.Needs.{needs}
 use Rattle.groups.proofs.writer.walk_many.Statement.{statement}
 use Rattle.groups.proofs.writer.walk_many.Tie as tie
@@ -10,16 +10,16 @@ pub walk-many-spec : {M : Type 1} → statement M
 walk-many-spec =
     tie.close
     (tie.spec
-    (λ c. search nothing-left)
+    (λ c t. search (list-not-there subType sub-words-long))
     (λ c. search needs)
     (λ c. search needs)
     (λ c. search needs)
     (λ c. search needs)
     (λ c. search word-fits)
-    (λ c. search (large-count many-walk))
+    (λ c t. search (list-larger subType sub-words-long))
     (λ c κs. search needs)
     (λ c. search needs)
     (λ c. search needs)
     (λ c κs. search needs)
     (λ c. search needs)
-    (λ c. search (then-members many-walk)))
+    (λ c t. search (list-writes subType sub-words-long)))

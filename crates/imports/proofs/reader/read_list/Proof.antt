@@ -1,6 +1,6 @@
 -- `imports::reader::read_list` meets its contract: the count, and then so many members. Assumes nothing.
 use Rattle.leb128.specs.Formats.{u32}
-use Rattle.numbers.specs.Told.{number-place}
+use Rattle.numbers.specs.Decoded.{number-place}
 use Rattle.imports.proofs.Members.{list-not-read, list-too-large, list-reads}
 use borrow.Author.Needs.{needs}
 use Rattle.imports.proofs.reader.read_list.Statement.{statement}

@@ -1,6 +1,6 @@
 -- `imports::reader::read_members` meets its contract: the loop has read some members, and the others are left. Assumes nothing.
 use Rattle.format.specs.Loop.{loop-starts, loop-done}
-use Rattle.parts.specs.Reading.{ReadingOn}
+use Rattle.parts.specs.ListWalks.{ReadingOn}
 use Rattle.imports.specs.Forms.{member}
 use Rattle.imports.proofs.Members.{reading-stops, reading-goes-on}
 use borrow.Author.Needs.{needs}

@@ -1,6 +1,6 @@
 -- `imports::writer::walk_compact1` meets its contract: two bytes, and a list. Assumes nothing.
 use Rattle.parts.specs.Listed.{listed}
-use Rattle.parts.specs.Steps.{behind-two}
+use Rattle.parts.specs.Writing.{behind-two}
 use Rattle.imports.specs.Forms.{member}
 use Rattle.imports.specs.declared.Member.the-variants.{Import}
 use borrow.Author.Needs.{needs}

@@ -1,8 +1,7 @@
 -- `imports::writer::walk_compact2` meets its contract: two bytes, an entity, and a list. Assumes nothing.
 use Rattle.parts.specs.Both.{both}
 use Rattle.parts.specs.Listed.{listed}
-use Rattle.parts.specs.Steps.{behind-two}
-use Rattle.parts.specs.Writing.{plain-missing, part-follows-plain}
+use Rattle.parts.specs.Writing.{textless-missing, follows-textless, behind-two}
 use Rattle.imports.specs.Entity.{entityWords, entityBytes, entity-agree, entity}
 use Rattle.imports.specs.Forms.{member}
 use Rattle.imports.specs.declared.Member.the-variants.{Name}
@@ -20,7 +19,7 @@ walk-compact2-spec =
     (λ c. search needs)
     (λ c. search needs)
     (λ c. search needs)
-    (λ c. search (behind-two 0x00 0x7E (both entity (listed (member Name))), plain-missing entityWords entityBytes entity-agree (listed (member Name))))
+    (λ c. search (behind-two 0x00 0x7E (both entity (listed (member Name))), textless-missing entityWords entityBytes entity-agree (listed (member Name))))
     (λ c κs. search needs)
     (λ c. search needs)
-    (λ c. search (behind-two 0x00 0x7E (both entity (listed (member Name))), part-follows-plain entityWords entityBytes entity-agree (listed (member Name)))))
+    (λ c. search (behind-two 0x00 0x7E (both entity (listed (member Name))), follows-textless entityWords entityBytes entity-agree (listed (member Name)))))

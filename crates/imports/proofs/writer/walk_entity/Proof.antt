@@ -1,5 +1,5 @@
 -- `imports::writer::walk_entity` meets its contract: each sort by its own walk. Assumes nothing.
-use Rattle.format.specs.Steps.{nothing-left}
+use Rattle.format.specs.Walk.{nothing-left}
 use Rattle.imports.specs.Entity.{function, ofTable, ofMemory, ofGlobal, ofTag, exact}
 use Rattle.imports.proofs.Entities.{sort-writes, large-sort, no-sort-writes}
 use borrow.Author.Needs.{needs}

@@ -1,5 +1,5 @@
 -- `imports::writer::walk_list` meets its contract: the count, and then so many members. Assumes nothing.
-use Rattle.texts.specs.Steps.{word-fits}
+use Rattle.texts.specs.WordWalks.{word-fits}
 use Rattle.imports.proofs.Members.{list-not-there, list-larger, list-writes}
 use borrow.Author.Needs.{needs}
 use Rattle.imports.proofs.writer.walk_list.Statement.{statement}

@@ -1,6 +1,6 @@
 -- `imports::writer::walk_members` meets its contract: the loop has walked some members, and the others are left. Assumes nothing.
 use Rattle.format.specs.Loop.{loop-starts, loop-done}
-use Rattle.parts.specs.Writing.{WritingOn}
+use Rattle.parts.specs.ListWalks.{WritingOn}
 use Rattle.imports.specs.Forms.{member}
 use Rattle.imports.proofs.Members.{no-name-stops, name-goes-on, no-entity-stops, import-goes-on}
 use borrow.Author.Needs.{needs}

@@ -1,33 +1,9 @@
 -- `limits::writer::walk_sizes` meets its contract: the minimum, and the maximum or none. Assumes nothing.
-use denote.Ref.{now}
-use Rattle.format.specs.Basic.{empty}
-use Rattle.format.specs.Sequence.{joins-no, joins-got}
-use Rattle.leb128.specs.Formats.{u64}
-use Rattle.types.specs.Vals.{unused}
-use Rattle.limits.specs.Number64.{number64}
-use Rattle.limits.proofs.Limits.{sizes-joins, behind-by}
+use mathlib.Core.Bool.{true}
+use Rattle.limits.proofs.Limits.{ofWords, no-minimum, rest-follows, unused-follow}
 use borrow.Author.Needs.{needs}
 use Rattle.limits.proofs.writer.walk_sizes.Statement.{statement}
 use Rattle.limits.proofs.writer.walk_sizes.Tie as tie
-
-returns : tie.Need-returns
-returns c =
-    let a = c .before .before .before .before .before .before .before .before .args in
-    joins-no _ _ _ _ _ _ _ _ _ (sizes-joins number64 u64 unused empty (a .maximum)) (now (a .words)) (a .at) (now (a .out)) (a .s) _ _ (c .before .before .before .before .walk-size .ensures) _ (c .enum-told .given .1)
-
-returns-2 : tie.Need-returns-2
-returns-2 c =
-    let a = c .before .before .before .before .before .before .before .before .before .before .before .before .before .before .args in
-    let v = c .before .before .before .before .before .before .p .given .0 in
-    joins-got _ _ _ _ _ _ _ _ _ (sizes-joins number64 u64 unused empty (a .maximum)) (now (a .words)) (a .at) (now (a .out)) (a .s) _ _ (c .before .before .before .before .before .before .before .before .before .before .walk-size .ensures) _ (v .0) (v .1 .0) _ (c .before .before .before .before .before .before .p .given .1)
-    (behind-by number64 u64 unused empty (now (a .words)) (v .0) _ _ _ _ (c .before .before .before .before .if1 .taken) (c .before .before .walk-size2 .ensures))
-
-returns-3 : tie.Need-returns-3
-returns-3 c =
-    let a = c .before .before .before .before .before .before .before .before .before .before .before .args in
-    let v = c .before .before .before .p .given .0 in
-    joins-got _ _ _ _ _ _ _ _ _ (sizes-joins number64 u64 unused empty (a .maximum)) (now (a .words)) (a .at) (now (a .out)) (a .s) _ _ (c .before .before .before .before .before .before .before .walk-size .ensures) _ (v .0) (v .1 .0) _ (c .before .before .before .p .given .1)
-    (behind-by number64 u64 unused empty (now (a .words)) (v .0) _ _ _ _ (c .before .if1 .left) (c .walk-unused .ensures _))
 
 pub walk-sizes-spec : {M : Type 1} → statement M
 walk-sizes-spec =
@@ -37,10 +13,10 @@ walk-sizes-spec =
     (λ c. search needs)
     (λ c. search needs)
     (λ c. search needs)
-    returns
+    (λ c. search (no-minimum ofWords))
     (λ c κs. search needs)
     (λ c. search needs)
-    returns-2
+    (λ c. search (rest-follows ofWords true))
     (λ c κs. search needs)
     (λ c. search needs)
-    returns-3)
+    (λ c. search unused-follow))

@@ -1,6 +1,6 @@
 -- `lists::reader::read_index` meets its contract. Assumes nothing.
 use Rattle.leb128.specs.Formats.{u32}
-use Rattle.numbers.specs.Told.{number-not-there, number-there}
+use Rattle.numbers.specs.Decoded.{no-number, one-number}
 use borrow.Author.Needs.{needs}
 use Rattle.lists.proofs.reader.read_index.Statement.{statement}
 use Rattle.lists.proofs.reader.read_index.Tie as tie
@@ -12,7 +12,7 @@ read-index-spec =
     (λ c κs. search needs)
     (λ c. search needs)
     (λ c. search needs)
-    (λ c. search (number-not-there u32))
+    (λ c. search (no-number u32))
     (λ c κs. search needs)
     (λ c. search needs)
-    (λ c. search (number-there u32)))
+    (λ c. search (one-number u32)))

@@ -1,6 +1,6 @@
 -- `lists::writer::walk_index` meets its contract. Assumes nothing.
-use Rattle.format.specs.Steps.{nothing-left}
-use Rattle.texts.specs.Steps.{word-there}
+use Rattle.format.specs.Walk.{nothing-left}
+use Rattle.texts.specs.WordWalks.{one-word}
 use borrow.Author.Needs.{needs}
 use Rattle.lists.proofs.writer.walk_index.Statement.{statement}
 use Rattle.lists.proofs.writer.walk_index.Tie as tie
@@ -15,4 +15,4 @@ walk-index-spec =
     (λ c. search needs)
     (λ c κs. search needs)
     (λ c. search needs)
-    (λ c. search word-there))
+    (λ c. search one-word))

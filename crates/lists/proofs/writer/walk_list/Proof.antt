@@ -1,7 +1,7 @@
 -- `lists::writer::walk_list` meets its contract: the count, and then so many members. Assumes nothing.
-use Rattle.format.specs.Steps.{nothing-left}
-use Rattle.texts.specs.Steps.{word-fits}
-use Rattle.lists.proofs.Members.{large-count-word, then-members-words}
+use Rattle.format.specs.Walk.{nothing-left}
+use Rattle.texts.specs.WordWalks.{word-fits}
+use Rattle.lists.proofs.Members.{more-than-words, members-behind}
 use borrow.Author.Needs.{needs}
 use Rattle.lists.proofs.writer.walk_list.Statement.{statement}
 use Rattle.lists.proofs.writer.walk_list.Tie as tie
@@ -16,10 +16,10 @@ walk-list-spec =
     (λ c. search needs)
     (λ c. search needs)
     (λ c. search word-fits)
-    (λ c. search large-count-word)
+    (λ c. search more-than-words)
     (λ c κs. search needs)
     (λ c. search needs)
     (λ c. search needs)
     (λ c κs. search needs)
     (λ c. search needs)
-    (λ c. search then-members-words))
+    (λ c. search members-behind))

@@ -1,21 +1,13 @@
 -- `parts::writer::walk_expr` meets its contract: a span, and what is written of it. Assumes nothing.
-use denote.Ref.{now}
-use mathlib.Core.Path.{sym, _∙_}
-use native.Mathlib.Omega.{arith}
+use Rattle.exprs.specs.Laws.{expr}
 use Rattle.texts.specs.Text.{constant}
 use Rattle.texts.specs.Place.{spanAt}
-use Rattle.exprs.specs.Laws.{expr}
-use Rattle.parts.specs.Text.{exprHolds, span-is}
+use Rattle.parts.specs.Text.{exprHolds}
 use Rattle.parts.specs.Writing.{span-missing, text-writes}
+use Rattle.parts.proofs.Texts.{behind-span}
 use borrow.Author.Needs.{needs}
 use Rattle.parts.proofs.writer.walk_expr.Statement.{statement}
 use Rattle.parts.proofs.writer.walk_expr.Tie as tie
-
-add-t8 : tie.Need-add-t8
-add-t8 c =
-    let k = c .before in
-    let a = k .before .before .before .before .before .before .args in
-    omega (arith, span-is (now (a .words)) (a .at) (k .v .given .0 .0) (sym (k .before .before .find-span .ensures) ∙ k .v .given .1) .1)
 
 pub walk-expr-spec : {M : Type 1} → statement M
 walk-expr-spec =
@@ -25,7 +17,7 @@ walk-expr-spec =
     (λ c. search needs)
     (λ c. search needs)
     (λ c. search (span-missing constant expr spanAt exprHolds))
-    add-t8
+    (λ c. search behind-span)
     (λ c κs. search needs)
     (λ c. search needs)
     (λ c. search (text-writes constant expr spanAt exprHolds)))

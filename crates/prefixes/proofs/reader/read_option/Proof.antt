@@ -1,5 +1,5 @@
 -- `prefixes::reader::read_option` meets its contract. Assumes nothing.
-use Rattle.format.specs.Steps.{nothing-left}
+use Rattle.format.specs.Walk.{nothing-left}
 use Rattle.prefixes.proofs.Bytes.{option-walk, option-gone}
 use borrow.Author.Needs.{needs}
 use Rattle.prefixes.proofs.reader.read_option.Statement.{statement}

@@ -1,5 +1,5 @@
 -- `prefixes::reader::read_shared` meets its contract. Assumes nothing.
-use Rattle.format.specs.Steps.{nothing-left}
+use Rattle.format.specs.Walk.{nothing-left}
 use Rattle.prefixes.proofs.Bytes.{mark-walk, mark-gone}
 use borrow.Author.Needs.{needs}
 use Rattle.prefixes.proofs.reader.read_shared.Statement.{statement}

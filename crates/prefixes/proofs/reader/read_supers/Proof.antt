@@ -1,5 +1,6 @@
 -- `prefixes::reader::read_supers` meets its contract: by the first byte. Assumes nothing.
-use Rattle.format.specs.Steps.{nothing-left, opened, opened-bare}
+use Rattle.format.specs.Dispatch.{opened, opened-bare}
+use Rattle.format.specs.Walk.{nothing-left}
 use Rattle.prefixes.proofs.Bytes.{open-list, final-list, no-prefix}
 use borrow.Author.Needs.{needs}
 use Rattle.prefixes.proofs.reader.read_supers.Statement.{statement}

@@ -1,5 +1,5 @@
 -- `prefixes::writer::walk_shared` meets its contract. Assumes nothing.
-use Rattle.format.specs.Steps.{nothing-left}
+use Rattle.format.specs.Walk.{nothing-left}
 use Rattle.prefixes.proofs.Words.{shared-there, shared-flag, shared-not}
 use borrow.Author.Needs.{needs}
 use Rattle.prefixes.proofs.writer.walk_shared.Statement.{statement}

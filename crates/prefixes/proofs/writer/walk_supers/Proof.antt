@@ -1,5 +1,5 @@
 -- `prefixes::writer::walk_supers` meets its contract: by the flag, and by the count. Assumes nothing.
-use Rattle.format.specs.Steps.{opened}
+use Rattle.format.specs.Dispatch.{opened}
 use Rattle.prefixes.proofs.Words.{supers-empty, supers-short, supers-flag, open-list, no-supers, final-list}
 use borrow.Author.Needs.{needs}
 use Rattle.prefixes.proofs.writer.walk_supers.Statement.{statement}

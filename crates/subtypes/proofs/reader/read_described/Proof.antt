@@ -1,5 +1,5 @@
 -- `subtypes::reader::read_described` meets its contract: what it describes, its descriptor, and what it defines. Assumes nothing.
-use Rattle.format.specs.Steps.{first-missing, second-follows}
+use Rattle.format.specs.Sequence.{first-missing, second-follows}
 use Rattle.subtypes.proofs.Parts.{describes-read, descriptor-read}
 use borrow.Author.Needs.{needs}
 use Rattle.subtypes.proofs.reader.read_described.Statement.{statement}

@@ -1,5 +1,5 @@
 -- `subtypes::writer::walk_described` meets its contract: what it describes, its descriptor, and what it defines. Assumes nothing.
-use Rattle.format.specs.Steps.{first-missing, second-follows}
+use Rattle.format.specs.Sequence.{first-missing, second-follows}
 use Rattle.subtypes.proofs.Parts.{describes-walk, descriptor-walk}
 use borrow.Author.Needs.{needs}
 use Rattle.subtypes.proofs.writer.walk_described.Statement.{statement}

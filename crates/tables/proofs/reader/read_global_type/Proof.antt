@@ -1,5 +1,5 @@
 -- `tables::reader::read_global_type` meets its contract: a value type, and whether it is mutable. Assumes nothing.
-use Rattle.format.specs.Steps.{first-missing, second-follows}
+use Rattle.format.specs.Sequence.{first-missing, second-follows}
 use Rattle.tables.proofs.Tables.{global-read}
 use borrow.Author.Needs.{needs}
 use Rattle.tables.proofs.reader.read_global_type.Statement.{statement}

@@ -1,6 +1,6 @@
 -- `tables::reader::read_init` meets its contract: a table type, and an expression. Assumes nothing.
 use Rattle.parts.specs.Text.{expression}
-use Rattle.parts.specs.Reading.{plain-missing, part-follows-plain}
+use Rattle.parts.specs.Reading.{textless-missing, follows-textless}
 use Rattle.tables.specs.TableType.{tableWords, tableBytes, table-agree}
 use borrow.Author.Needs.{needs}
 use Rattle.tables.proofs.reader.read_init.Statement.{statement}
@@ -14,7 +14,7 @@ read-init-spec =
     (λ c. search needs)
     (λ c. search needs)
     (λ c. search needs)
-    (λ c. search (plain-missing tableWords tableBytes table-agree expression))
+    (λ c. search (textless-missing tableWords tableBytes table-agree expression))
     (λ c κs. search needs)
     (λ c. search needs)
-    (λ c. search (part-follows-plain tableWords tableBytes table-agree expression)))
+    (λ c. search (follows-textless tableWords tableBytes table-agree expression)))

@@ -1,5 +1,5 @@
 -- `tables::reader::read_table_type` meets its contract: a reference type and limits. Assumes nothing.
-use Rattle.format.specs.Steps.{first-missing, second-follows}
+use Rattle.format.specs.Sequence.{first-missing, second-follows}
 use Rattle.tables.proofs.Tables.{table-read}
 use borrow.Author.Needs.{needs}
 use Rattle.tables.proofs.reader.read_table_type.Statement.{statement}

@@ -1,5 +1,5 @@
 -- `tables::reader::read_tag_type` meets its contract. Assumes nothing.
-use Rattle.format.specs.Steps.{nothing-left}
+use Rattle.format.specs.Walk.{nothing-left}
 use Rattle.tables.proofs.Tables.{no-tag, tag-missing, tag-there}
 use borrow.Author.Needs.{needs}
 use Rattle.tables.proofs.reader.read_tag_type.Statement.{statement}

@@ -1,5 +1,5 @@
 -- `tables::writer::walk_bare` meets its contract: a table type, and two unused words. Assumes nothing.
-use Rattle.format.specs.Steps.{first-missing}
+use Rattle.format.specs.Sequence.{first-missing}
 use Rattle.tables.proofs.Tables.{bare-walk, unused-follows}
 use borrow.Author.Needs.{needs}
 use Rattle.tables.proofs.writer.walk_bare.Statement.{statement}

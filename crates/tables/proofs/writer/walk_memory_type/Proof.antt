@@ -1,5 +1,5 @@
 -- `tables::writer::walk_memory_type` meets its contract: a memory type is limits. Assumes nothing.
-use Rattle.format.specs.Steps.{renamed}
+use Rattle.format.specs.Dispatch.{renamed}
 use Rattle.tables.proofs.Tables.{memory-walk}
 use borrow.Author.Needs.{needs}
 use Rattle.tables.proofs.writer.walk_memory_type.Statement.{statement}

@@ -1,5 +1,5 @@
 -- `tables::writer::walk_tag_type` meets its contract. Assumes nothing.
-use Rattle.format.specs.Steps.{nothing-left}
+use Rattle.format.specs.Walk.{nothing-left}
 use Rattle.tables.proofs.Tables.{tag-word}
 use borrow.Author.Needs.{needs}
 use Rattle.tables.proofs.writer.walk_tag_type.Statement.{statement}

@@ -1,54 +1,27 @@
 -- `vals::writer::walk_storage` meets its contract. Assumes nothing.
-use mathlib.Core.Path.{refl}
-use denote.Ref.{now}
-use mathlib.Core.List.{[], _∷_}
-use Prim.Native.Nat.{_+_}
-use Rattle.format.specs.Count.{adds-nil}
-use Rattle.format.specs.Read.{drop-end}
-use Rattle.format.specs.Walk.{walks-no, walks-tail}
-use Rattle.types.specs.Vals.{unused, valWords, valBytes, storageWords, storageBytes, i8, i16}
-use Rattle.types.specs.declared.StorageType.the-variants.{I8, I16, Val}
-use Rattle.vals.proofs.Words.{storage-packed, storage-val}
+use Rattle.format.specs.Dispatch.{opened-bare}
+use Rattle.format.specs.Walk.{nothing-left}
+use Rattle.types.specs.Vals.{i8, i16}
+use Rattle.vals.proofs.Words.{packed-opens, val-walks}
 use borrow.Author.Needs.{needs}
 use Rattle.vals.proofs.writer.walk_storage.Statement.{statement}
 use Rattle.vals.proofs.writer.walk_storage.Tie as tie
-
-returns : tie.Need-returns
-returns c = let a = c .before .before .before .args in walks-no storageWords (storageBytes .print) (λ x. 9) (now (a .words)) (a .at) (now (a .out)) (a .s) (now (a .out)) (rw (drop-end (now (a .words)) (a .at) (c .if1 .taken)))
-
-returns-2 : tie.Need-returns-2
-returns-2 c =
-    let a = c .before .before .before .before .before .before .before .before .before .args in
-    walks-tail unused (λ u. 0x78 ∷ []) (λ u. 9) storageWords (storageBytes .print) (λ x. 9) (λ u. I8) [] 9 (now (a .words)) (a .at + 1) (a .at) (now (a .out)) (a .s) (now (a .out)) (a .s) _ _
-    (storage-packed (now (a .words)) (a .at) (c .before .before .before .before .before .before .if1 .left) i8 (c .before .before .before .before .if2 .taken)) (λ u. refl) (λ u. refl) (adds-nil (now (a .out)) (a .s)) (c .before .before .walk-unused .ensures)
-
-returns-3 : tie.Need-returns-3
-returns-3 c =
-    let a = c .before .before .before .before .before .before .before .before .before .before .args in
-    walks-tail unused (λ u. 0x77 ∷ []) (λ u. 9) storageWords (storageBytes .print) (λ x. 9) (λ u. I16) [] 9 (now (a .words)) (a .at + 1) (a .at) (now (a .out)) (a .s) (now (a .out)) (a .s) _ _
-    (storage-packed (now (a .words)) (a .at) (c .before .before .before .before .before .before .before .if1 .left) i16 (c .before .before .before .before .if3 .taken)) (λ u. refl) (λ u. refl) (adds-nil (now (a .out)) (a .s)) (c .before .before .walk-unused2 .ensures)
-
-returns-4 : tie.Need-returns-4
-returns-4 c =
-    let a = c .before .before .before .before .before .before .before .before .before .before .args in
-    walks-tail valWords (valBytes .print) (λ x. 9) storageWords (storageBytes .print) (λ x. 9) Val [] 9 (now (a .words)) (a .at) (a .at) (now (a .out)) (a .s) (now (a .out)) (a .s) _ _
-    (storage-val (now (a .words)) (a .at) (c .before .before .before .before .before .before .before .if1 .left) (c .before .before .before .before .before .if2 .left) (c .before .before .before .before .if3 .left)) (λ v. refl) (λ v. refl) (adds-nil (now (a .out)) (a .s)) (c .before .before .walk-val .ensures)
 
 pub walk-storage-spec : {M : Type 1} → statement M
 walk-storage-spec =
     tie.close
     (tie.spec
-    returns
+    (λ c. search nothing-left)
     (λ c. search needs)
     (λ c. search needs)
     (λ c. search needs)
     (λ c κs. search needs)
     (λ c. search needs)
-    returns-2
+    (λ c. search (opened-bare (packed-opens i8)))
     (λ c. search needs)
     (λ c κs. search needs)
     (λ c. search needs)
-    returns-3
+    (λ c. search (opened-bare (packed-opens i16)))
     (λ c κs. search needs)
     (λ c. search needs)
-    returns-4)
+    (λ c. search val-walks))

@@ -1,0 +1,27 @@
+-- `data::reader::read_active` meets its contract: a memory, an expression and data. Assumes nothing.
+use Rattle.texts.specs.Words.{word}
+use Rattle.parts.specs.Text.{expression, content}
+use Rattle.parts.specs.Both.{both}
+use Rattle.parts.specs.Reading.{part-missing, part-follows, textless-missing, follows-textless}
+use Rattle.data.specs.Segment.{memoryBytes, memory-agree}
+use borrow.Author.Needs.{needs}
+use Rattle.data.proofs.reader.read_active.Statement.{statement}
+use Rattle.data.proofs.reader.read_active.Tie as tie
+
+pub read-active-spec : {M : Type 1} → statement M
+read-active-spec =
+    tie.close
+    (tie.spec
+    (λ c κs. search needs)
+    (λ c. search needs)
+    (λ c. search needs)
+    (λ c. search needs)
+    (λ c. search (textless-missing word memoryBytes memory-agree (both expression content)))
+    (λ c κs. search needs)
+    (λ c. search needs)
+    (λ c. search needs)
+    (λ c. search needs)
+    (λ c. search (follows-textless word memoryBytes memory-agree (both expression content), part-missing expression content))
+    (λ c κs. search needs)
+    (λ c. search needs)
+    (λ c. search (follows-textless word memoryBytes memory-agree (both expression content), part-follows expression content)))
