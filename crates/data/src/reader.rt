@@ -10,6 +10,7 @@ ghost use Prim.Native.Nat.{_≤_};
 ghost use lib.ListN.{length};
 ghost use Rattle.format.specs.Count.{silent};
 ghost use Rattle.format.specs.Walk.{Walks};
+ghost use Rattle.texts.specs.Judge.{textMost};
 ghost use Rattle.texts.specs.Words.{word};
 ghost use Rattle.parts.specs.Reading.{Reading};
 ghost use Rattle.data.specs.Segment.{memoryBytes, active, form, dataSection};
@@ -38,7 +39,7 @@ fn read_memory(b: &[u8], at: usize, out: &mut [u32], s: Done) -> Walk
 
 // A memory, the offset and data.
 fn read_active(b: &[u8], at: usize, out: &mut [u32], s: Done) -> Walk
-    requires { ⌜ length (now b) ≤ 65536 ⌝ }
+    requires { ⌜ length (now b) ≤ textMost ⌝ }
     ensures { λ r. ⌜ Reading (form active) (now (b .entry)) at (now (out .entry)) s (now (out .exit)) r ⌝ }
 {
     let Walk::Got(p, t) = read_memory(b, at, out, s) else {
@@ -52,7 +53,7 @@ fn read_active(b: &[u8], at: usize, out: &mut [u32], s: Done) -> Walk
 
 // Reads the item at a place and appends the words behind the 11: 01 is a passive segment, which has no memory and no offset.
 pub fn walk_bytes(b: &[u8], at: usize, out: &mut [u32], s: Done) -> Walk
-    requires { ⌜ length (now b) ≤ 65536 ⌝ }
+    requires { ⌜ length (now b) ≤ textMost ⌝ }
     ensures { λ r. ⌜ Reading dataSection (now (b .entry)) at (now (out .entry)) s (now (out .exit)) r ⌝ }
 {
     if b.len() <= at {

@@ -6,6 +6,7 @@ use mathlib.Core.List.{List, [], _∷_, _++_}
 use Prim.Native.Nat.{ℕ, min}
 use lib.Dec.{eqb}
 use Rattle.format.specs.Lists.{many}
+use Rattle.format.specs.Count.{noRefusal}
 use Rattle.leb128.specs.Formats.{u32}
 use Rattle.leb128.specs.Leb.{leb, lebBy}
 use Rattle.texts.specs.Text.{lowestOf}
@@ -67,7 +68,7 @@ abbrev pub elementsOf : Bool → List ℕ → Elements Span → List ℕ
 elementsOf said t x = elementsFrom said t (x .0) (x .1)
 
 abbrev pub lowFrom : List ℕ → (e : Bool) → ElementsOf e Span → ℕ
-lowFrom t false xs = 9
+lowFrom t false xs = noRefusal
 lowFrom t true y = expressionsLow t y
 
 abbrev pub elementsLow : List ℕ → Elements Span → ℕ

@@ -18,6 +18,7 @@ ghost use Prim.Native.Nat.{ℕ, _≤_};
 ghost use lib.Dec.{leb};
 ghost use lib.ListN.{length};
 ghost use Rattle.format.specs.Count.{Appends};
+ghost use Rattle.texts.specs.Judge.{textMost};
 ghost use Rattle.parts.specs.Text.{expression};
 ghost use Rattle.parts.specs.Listed.{listed};
 ghost use Rattle.parts.specs.Reading.{Reading};
@@ -74,7 +75,7 @@ fn read_nowhere(at: usize, out: &mut [u32], s: Done) -> Walk
 
 // The table, and the offset.
 fn read_table_offset(b: &[u8], at: usize, out: &mut [u32], s: Done) -> Walk
-    requires { ⌜ length (now b) ≤ 65536 ⌝ }
+    requires { ⌜ length (now b) ≤ textMost ⌝ }
     ensures { λ r. ⌜ Reading (place ActiveTable) (now (b .entry)) at (now (out .entry)) s (now (out .exit)) r ⌝ }
 {
     let Walk::Got(p, t) = read_index(b, at, out, s) else {
@@ -84,7 +85,7 @@ fn read_table_offset(b: &[u8], at: usize, out: &mut [u32], s: Done) -> Walk
 }
 
 fn read_place(m: Mode, b: &[u8], at: usize, out: &mut [u32], s: Done) -> Walk
-    requires { ⌜ length (now b) ≤ 65536 ⌝ }
+    requires { ⌜ length (now b) ≤ textMost ⌝ }
     ensures { λ r. ⌜ Reading (place m) (now (b .entry)) at (now (out .entry)) s (now (out .exit)) r ⌝ }
 {
     match m {
@@ -118,7 +119,7 @@ fn read_functions(said: bool, b: &[u8], at: usize, out: &mut [u32], s: Done) -> 
 
 // n expressions.
 fn read_members(n: usize, b: &[u8], at: usize, out: &mut [u32], s: Done) -> Walk
-    requires { ⌜ (at ≤ length (now b)) × (length (now b) ≤ 65536) ⌝ }
+    requires { ⌜ (at ≤ length (now b)) × (length (now b) ≤ textMost) ⌝ }
     ensures { λ r. ⌜ MembersRead expression (now (b .entry)) at n (now (out .entry)) s (now (out .exit)) r ⌝ }
 {
     let mut t = s;
@@ -137,7 +138,7 @@ fn read_members(n: usize, b: &[u8], at: usize, out: &mut [u32], s: Done) -> Walk
 
 // A count larger than what is left is answered at once, since each member takes a byte.
 fn read_exprs(b: &[u8], at: usize, out: &mut [u32], s: Done) -> Walk
-    requires { ⌜ length (now b) ≤ 65536 ⌝ }
+    requires { ⌜ length (now b) ≤ textMost ⌝ }
     ensures { λ r. ⌜ Reading (listed expression) (now (b .entry)) at (now (out .entry)) s (now (out .exit)) r ⌝ }
 {
     let ReadU32::Value(n, p) = numbers::decode_u32(b, at) else {
@@ -152,7 +153,7 @@ fn read_exprs(b: &[u8], at: usize, out: &mut [u32], s: Done) -> Walk
 
 // The type, which is nullable unshared func where it is not said, and the list of expressions.
 fn read_expressions(said: bool, b: &[u8], at: usize, out: &mut [u32], s: Done) -> Walk
-    requires { ⌜ length (now b) ≤ 65536 ⌝ }
+    requires { ⌜ length (now b) ≤ textMost ⌝ }
     ensures { λ r. ⌜ Reading (members true said) (now (b .entry)) at (now (out .entry)) s (now (out .exit)) r ⌝ }
 {
     let t = append_word(1, out, s);
@@ -180,7 +181,7 @@ fn is_typed(m: Mode) -> bool
 
 // Reads the item at a place and appends the words behind the 9.
 pub fn walk_bytes(b: &[u8], at: usize, out: &mut [u32], s: Done) -> Walk
-    requires { ⌜ length (now b) ≤ 65536 ⌝ }
+    requires { ⌜ length (now b) ≤ textMost ⌝ }
     ensures { λ r. ⌜ Reading elementSection (now (b .entry)) at (now (out .entry)) s (now (out .exit)) r ⌝ }
 {
     if b.len() <= at {

@@ -35,8 +35,16 @@ pub fn copy_words(w: &[u32], out: &mut [u32]) -> Written
     Written::Length(i)
 }
 
-// How much was appended to a lent buffer, 65,537 standing for more than 65,536, times 16; and the lowest refusal drawn so far, 9 standing for none. One
-// number, so that a walk hands it to the next in a register.
+// Stands for any count above 65,536: no more than that is ever written.
+const COUNT_PAST: usize = 65537;
+
+// So many refusals there is room for below the count.
+const LOW_ROOM: u64 = 16;
+
+// Stands for none: it is above all that a text draws.
+pub const NO_REFUSAL: u32 = 9;
+
+// How much was appended to a lent buffer, and the lowest refusal drawn so far. One number, so that a walk hands it to the next in a register.
 pub struct Done {
     pub v: u64,
 }
@@ -66,25 +74,25 @@ pub fn least(a: usize, b: usize) -> usize
 pub fn more(a: usize, b: usize) -> usize
     ensures { λ r. ⌜ r ≡ counted (a + b) ⌝ }
 {
-    if 65537 <= a {
-        return 65537;
+    if COUNT_PAST <= a {
+        return COUNT_PAST;
     }
-    if 65537 <= b {
-        return 65537;
+    if COUNT_PAST <= b {
+        return COUNT_PAST;
     }
-    least(a + b, 65537)
+    least(a + b, COUNT_PAST)
 }
 
 pub fn count(s: Done) -> usize
     ensures { λ r. ⌜ r ≡ countIn s ⌝ }
 {
-    (s.v / 16) as usize
+    (s.v / LOW_ROOM) as usize
 }
 
 pub fn low(s: Done) -> u32
     ensures { λ r. ⌜ r ≡ lowIn s ⌝ }
 {
-    (s.v % 16) as u32
+    (s.v % LOW_ROOM) as u32
 }
 
 // k more were appended.
@@ -92,13 +100,13 @@ pub fn grown(s: Done, k: usize) -> Done
     ensures { λ r. ⌜ r .v ≡ grownBy s k ⌝ }
 {
     let v = s.v;
-    if more((v / 16) as usize, k) < 65537 {
+    if more((v / LOW_ROOM) as usize, k) < COUNT_PAST {
         return Done {
-            v: v + 16 * k as u64,
+            v: v + LOW_ROOM * k as u64,
         };
     }
     Done {
-        v: 16 * 65537 + v % 16,
+        v: LOW_ROOM * COUNT_PAST as u64 + v % LOW_ROOM,
     }
 }
 
@@ -107,9 +115,9 @@ pub fn lower(s: Done, k: u32) -> Done
     ensures { λ r. ⌜ r ≡ lowered s k ⌝ }
 {
     let v = s.v;
-    if (k as u64) < v % 16 {
+    if (k as u64) < v % LOW_ROOM {
         return Done {
-            v: v - v % 16 + k as u64,
+            v: v - v % LOW_ROOM + k as u64,
         };
     }
     Done { v: v }

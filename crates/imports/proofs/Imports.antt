@@ -20,6 +20,7 @@ use Rattle.format.specs.declared.Done.{Done}
 use Rattle.format.specs.declared.Walk.{Walk}
 use Rattle.format.specs.declared.Walk.the-variants as walks
 use Rattle.leb128.specs.Leb.{uleb}
+use Rattle.texts.specs.Judge.{textMost}
 use Rattle.texts.specs.Section.{Section}
 use Rattle.texts.specs.Words.{span}
 use Rattle.texts.specs.Place.{sizedAt, textAt, stands, stands-not}
@@ -201,7 +202,7 @@ module _ {b : List ℕ} {at : ℕ} {found : TextAt} (d : found ≡ textAt (sized
         (compact-reads b (v .start + v .len) Compact2 two-not (sym k ∙ g) (both entity (listed (member Name))) cur u new r x)
 
 -- the two bytes of a compact form are within the bytes, so the place behind them is a number of 64 bits
-module _ (b : List ℕ) (p : ℕ) (most : length b ≤ 65536) (f : Form) (g : f ≡ formAt (drop p b)) where
+module _ (b : List ℕ) (p : ℕ) (most : length b ≤ textMost) (f : Form) (g : f ≡ formAt (drop p b)) where
   pub behind-compact1 : f ≡ Compact1 → Fits w64 (p + 2)
   behind-compact1 k = let h = compact-long b p Compact1 one-not (sym k ∙ g) in record { fits = omega arith }
 

@@ -20,6 +20,7 @@ ghost use mathlib.Core.List.{_∷_};
 ghost use Prim.Native.Nat.{_≤_};
 ghost use lib.ListN.{length, drop};
 ghost use Rattle.format.specs.Count.{Appends};
+ghost use Rattle.texts.specs.Judge.{textMost};
 ghost use Rattle.texts.specs.Words.{span};
 ghost use Rattle.parts.specs.Both.{both};
 ghost use Rattle.parts.specs.Listed.{listed};
@@ -53,7 +54,7 @@ fn read_entity(b: &[u8], at: usize, out: &mut [u32], s: Done) -> Walk
 
 // A name, and its entity.
 fn read_import(b: &[u8], at: usize, out: &mut [u32], s: Done) -> Walk
-    requires { ⌜ length (now b) ≤ 65536 ⌝ }
+    requires { ⌜ length (now b) ≤ textMost ⌝ }
     ensures { λ r. ⌜ Reading (member Import) (now (b .entry)) at (now (out .entry)) s (now (out .exit)) r ⌝ }
 {
     let Walk::Got(p, t) = read_name(b, at, out, s) else {
@@ -63,7 +64,7 @@ fn read_import(b: &[u8], at: usize, out: &mut [u32], s: Done) -> Walk
 }
 
 fn read_member(m: Member, b: &[u8], at: usize, out: &mut [u32], s: Done) -> Walk
-    requires { ⌜ length (now b) ≤ 65536 ⌝ }
+    requires { ⌜ length (now b) ≤ textMost ⌝ }
     ensures { λ r. ⌜ Reading (member m) (now (b .entry)) at (now (out .entry)) s (now (out .exit)) r ⌝ }
 {
     match m {
@@ -74,7 +75,7 @@ fn read_member(m: Member, b: &[u8], at: usize, out: &mut [u32], s: Done) -> Walk
 
 // n members.
 fn read_members(m: Member, n: usize, b: &[u8], at: usize, out: &mut [u32], s: Done) -> Walk
-    requires { ⌜ (at ≤ length (now b)) × (length (now b) ≤ 65536) ⌝ }
+    requires { ⌜ (at ≤ length (now b)) × (length (now b) ≤ textMost) ⌝ }
     ensures { λ r. ⌜ MembersRead (member m) (now (b .entry)) at n (now (out .entry)) s (now (out .exit)) r ⌝ }
 {
     let mut t = s;
@@ -93,7 +94,7 @@ fn read_members(m: Member, n: usize, b: &[u8], at: usize, out: &mut [u32], s: Do
 
 // A count larger than what is left is answered at once, since each member takes a byte.
 fn read_list(m: Member, b: &[u8], at: usize, out: &mut [u32], s: Done) -> Walk
-    requires { ⌜ length (now b) ≤ 65536 ⌝ }
+    requires { ⌜ length (now b) ≤ textMost ⌝ }
     ensures { λ r. ⌜ Reading (listed (member m)) (now (b .entry)) at (now (out .entry)) s (now (out .exit)) r ⌝ }
 {
     let ReadU32::Value(n, p) = numbers::decode_u32(b, at) else {
@@ -108,7 +109,7 @@ fn read_list(m: Member, b: &[u8], at: usize, out: &mut [u32], s: Done) -> Walk
 
 // An entity, and a list of names, behind 00 7E.
 fn read_compact2(b: &[u8], at: usize, out: &mut [u32], s: Done) -> Walk
-    requires { ⌜ length (now b) ≤ 65536 ⌝ }
+    requires { ⌜ length (now b) ≤ textMost ⌝ }
     ensures { λ r. ⌜ Reading (both entity (listed (member Name))) (now (b .entry)) at (now (out .entry)) s (now (out .exit)) r ⌝ }
 {
     let Walk::Got(p, t) = read_entity(b, at, out, s) else {
@@ -147,7 +148,7 @@ fn append_head(form: u32, v: Span, out: &mut [u32], s: Done) -> Done
 
 // Reads the item at a place and appends the words behind the 2.
 pub fn walk_bytes(b: &[u8], at: usize, out: &mut [u32], s: Done) -> Walk
-    requires { ⌜ length (now b) ≤ 65536 ⌝ }
+    requires { ⌜ length (now b) ≤ textMost ⌝ }
     ensures { λ r. ⌜ Reading importSection (now (b .entry)) at (now (out .entry)) s (now (out .exit)) r ⌝ }
 {
     let TextAt::At(v) = find_name(b, at) else {

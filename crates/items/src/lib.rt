@@ -1,5 +1,6 @@
 // Items of all sections: a record's first word, or the section's id, says which. A further section is one more case of each function.
 use format::Done;
+use format::NO_REFUSAL;
 use format::Walk;
 use format::append_word;
 use format::copy;
@@ -11,9 +12,17 @@ ghost use Prim.Native.Nat.{_≤_};
 ghost use lib.ListN.{length};
 ghost use Rattle.format.specs.Count.{silent};
 ghost use Rattle.format.specs.Walk.{Walking, Walks};
+ghost use Rattle.texts.specs.Judge.{textMost};
 ghost use Rattle.items.specs.Record.{words as wordsOf, itemOf, lowOf, beginsIn, recordOf};
 ghost use Rattle.items.specs.Judging.{Judges, Tried, Puts};
 ghost use Rattle.items.specs.Start.{Starts};
+
+// Document 01, Records, and 6 of its answers.
+const WORDS_MOST: usize = 4096;
+
+const TEXT_MOST: usize = 65536;
+
+const ITEM_MOST: usize = 65536;
 
 // Reads a record's words and appends its item.
 pub fn walk_words(words: &[u32], text: &[u8], out: &mut [u8], s: Done) -> Walk
@@ -34,7 +43,7 @@ pub fn walk_words(words: &[u32], text: &[u8], out: &mut [u8], s: Done) -> Walk
 
 // Reads an item and appends its record's words.
 pub fn walk_bytes(id: u8, bytes: &[u8], out: &mut [u32], s: Done) -> Walk
-    requires { ⌜ length (now bytes) ≤ 65536 ⌝ }
+    requires { ⌜ length (now bytes) ≤ textMost ⌝ }
     ensures { λ r. ⌜ Walking (beginsIn id) recordOf silent (now (bytes .entry)) 0 (now (out .entry)) s (now (out .exit)) r ⌝ }
 {
     let t = append_word(id as u32, out, s);
@@ -60,25 +69,25 @@ fn start(words: &[u32], text: &[u8]) -> u32
     ensures { λ r. ⌜ Starts (now (words .entry)) (now (text .entry)) r ⌝ }
 {
     if words.len() == 0 {
-        return 9;
+        return NO_REFUSAL;
     }
     if words[0] != 2 {
-        return 9;
+        return NO_REFUSAL;
     }
     if words.len() < text.len() / 32 {
-        return 9;
+        return NO_REFUSAL;
     }
     if is_plain(text) {
         return 4;
     }
-    9
+    NO_REFUSAL
 }
 
 // Measured by a walk, which leaves the item of a record that draws none of them in `tried`, where there is room.
 pub fn judge(words: &[u32], text: &[u8], tried: &mut [u8]) -> Judged
     ensures { λ r. ⌜ Judges (now (words .entry)) (now (text .entry)) (now (tried .entry)) (now (tried .exit)) r ⌝ }
 {
-    if 4096 < words.len() {
+    if WORDS_MOST < words.len() {
         return Judged::Refused(2);
     }
     let from = start(words, text);
@@ -88,14 +97,14 @@ pub fn judge(words: &[u32], text: &[u8], tried: &mut [u8]) -> Judged
     if end != words.len() {
         return Judged::Refused(2);
     }
-    if 65536 < text.len() {
+    if TEXT_MOST < text.len() {
         return Judged::Refused(3);
     }
     if low(s) < from {
         return Judged::Refused(low(s));
     }
     let n = count(s);
-    if 65536 < n {
+    if ITEM_MOST < n {
         return Judged::Refused(6);
     }
     Judged::Length(n)

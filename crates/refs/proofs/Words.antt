@@ -27,8 +27,8 @@ module _ (w : List ℕ) (at : ℕ) (h : at + 2 ≤ length w) where
 
 -- found is what `from_words` told of them
 module _ {f : RefType → List ℕ} {w : List ℕ} {at : ℕ} {old : List ℕ} {s : Done} {new : List ℕ} (h : at < length w) (k : 2 ≤ length w - at) {found : RefRead} (d : found ≡ refAns (refOf (getD w at 0, getD w (at + 1) 0))) where
-  pub ref-missing : found ≡ refs.No → AreWords w → Walks refWords f silent w at old s new walks.No
-  ref-missing e i = nothing-there (ref-two w at (omega arith) (i at .fits) (i (at + 1) .fits) none (ref-none (refOf (getD w at 0, getD w (at + 1) 0)) (sym d ∙ e)))
+  pub ref-words-missing : found ≡ refs.No → AreWords w → Walks refWords f silent w at old s new walks.No
+  ref-words-missing e i = nothing-there (ref-two w at (omega arith) (i at .fits) (i (at + 1) .fits) none (ref-none (refOf (getD w at 0, getD w (at + 1) 0)) (sym d ∙ e)))
 
-  pub ref-there : {r : RefType} {u : Done} → found ≡ refs.Ref r → Appends (f r) old s new u → AreWords w → Walks refWords f silent w at old s new (walks.Got (at + 2) u)
-  ref-there {r} e a i = value-there a (ref-two w at (omega arith) (i at .fits) (i (at + 1) .fits) (some r) (ref-some (refOf (getD w at 0, getD w (at + 1) 0)) r (sym d ∙ e))) (omega arith)
+  pub ref-words-there : {r : RefType} {u : Done} → found ≡ refs.Ref r → Appends (f r) old s new u → AreWords w → Walks refWords f silent w at old s new (walks.Got (at + 2) u)
+  ref-words-there {r} e a i = value-there a (ref-two w at (omega arith) (i at .fits) (i (at + 1) .fits) (some r) (ref-some (refOf (getD w at 0, getD w (at + 1) 0)) r (sym d ∙ e))) (omega arith)

@@ -14,6 +14,7 @@ ghost use Prim.Native.Nat.{_≤_};
 ghost use lib.ListN.{length};
 ghost use Rattle.format.specs.Count.{silent};
 ghost use Rattle.format.specs.Walk.{Walks};
+ghost use Rattle.texts.specs.Judge.{textMost};
 ghost use Rattle.parts.specs.Text.{expression};
 ghost use Rattle.parts.specs.Both.{both};
 ghost use Rattle.parts.specs.Reading.{Reading};
@@ -75,7 +76,7 @@ fn read_bare(b: &[u8], at: usize, out: &mut [u32], s: Done) -> Walk
 
 // A table type, and the expression of its initial value.
 fn read_init(b: &[u8], at: usize, out: &mut [u32], s: Done) -> Walk
-    requires { ⌜ length (now b) ≤ 65536 ⌝ }
+    requires { ⌜ length (now b) ≤ textMost ⌝ }
     ensures { λ r. ⌜ Reading (both tableType expression) (now (b .entry)) at (now (out .entry)) s (now (out .exit)) r ⌝ }
 {
     let Walk::Got(p, t) = read_table_type(b, at, out, s) else {
@@ -86,7 +87,7 @@ fn read_init(b: &[u8], at: usize, out: &mut [u32], s: Done) -> Walk
 
 // Reads the item at a place and appends the words behind the 4.
 pub fn walk_bytes(b: &[u8], at: usize, out: &mut [u32], s: Done) -> Walk
-    requires { ⌜ length (now b) ≤ 65536 ⌝ }
+    requires { ⌜ length (now b) ≤ textMost ⌝ }
     ensures { λ r. ⌜ Reading tableSection (now (b .entry)) at (now (out .entry)) s (now (out .exit)) r ⌝ }
 {
     if b.len() <= at {

@@ -1,5 +1,5 @@
--- What a text has to be (document 01, Answers by number, 3 to 5): its span ends within, a name is UTF-8, an expression is as allowed. The lowest refusal is
--- 9, none, exactly where all of a record's texts are so. Assumes nothing.
+-- What a text has to be (document 01, Answers by number, 3 to 5): its span ends within, a name is UTF-8, an expression is as allowed. No refusal is
+-- drawn exactly where all of a record's texts are so. Assumes nothing.
 use mathlib.Core.Path.{_≡_, refl, sym}
 use mathlib.Core.Logic.{_↔_}
 use mathlib.Core.Bool.{Bool, true, false, cond, true≢false}
@@ -9,6 +9,7 @@ use native.Mathlib.Omega.{arith}
 use lib.ListN.{length}
 use borrow.Author.Tests.{le-leb, leb-true, eqb-true, eq-eqb}
 use Rattle.format.specs.Lists.{All}
+use Rattle.format.specs.Count.{noRefusal}
 use Rattle.names.specs.Utf8.{IsName}
 use Rattle.names.specs.Name.{isName, name-exactly}
 use Rattle.exprs.specs.Grammar.{Expr}
@@ -30,36 +31,36 @@ pub record Allowed (t : List ℕ) (x : Kind × Span) : Type 0 where
 
 -- ---- a refusal of a test that fails
 
-one-test : (c : Bool) (k : ℕ) → k < 9 → (cond c 9 k ≡ 9) ↔ (c ≡ true)
+one-test : (c : Bool) (k : ℕ) → k < noRefusal → (cond c noRefusal k ≡ noRefusal) ↔ (c ≡ true)
 one-test true k h = (λ e. refl, λ e. refl)
 one-test false k h = (λ e. absurd (omega arith), λ e. absurd (true≢false (sym e)))
 
-small-test : (c : Bool) (k : ℕ) → k < 9 → cond c 9 k ≤ 9
+small-test : (c : Bool) (k : ℕ) → k < noRefusal → cond c noRefusal k ≤ noRefusal
 small-test true k h = omega arith
 small-test false k h = omega arith
 
-both-nine : (a b : ℕ) → a ≤ 9 → b ≤ 9 → (min a b ≡ 9) ↔ ((a ≡ 9) × (b ≡ 9))
-both-nine a b h k = (λ e. (omega arith, omega arith), λ p. omega arith)
+both-none : (a b : ℕ) → a ≤ noRefusal → b ≤ noRefusal → (min a b ≡ noRefusal) ↔ ((a ≡ noRefusal) × (b ≡ noRefusal))
+both-none a b h k = (λ e. (omega arith, omega arith), λ p. omega arith)
 
 module _ (t : List ℕ) where
-  small : (k : Kind) (at : Span) → refusalOf t k at ≤ 9
+  small : (k : Kind) (at : Span) → refusalOf t k at ≤ noRefusal
   unfolding pastOf
   small named at = let h = small-test (isWithin t at) 3 (omega arith) in omega arith
   small constant at = let h = small-test (isWithin t at) 3 (omega arith) in omega arith
   small plain at = small-test (isWithin t at) 3 (omega arith)
 
   -- two tests, the first that of the place
-  two-tests : (at : Span) (c : Bool) (k : ℕ) → k < 9 → (min (pastOf t at) (cond c 9 k) ≡ 9) ↔ ((at .start + at .len ≤ length t) × (c ≡ true))
+  two-tests : (at : Span) (c : Bool) (k : ℕ) → k < noRefusal → (min (pastOf t at) (cond c noRefusal k) ≡ noRefusal) ↔ ((at .start + at .len ≤ length t) × (c ≡ true))
   unfolding pastOf
   two-tests at c k h =
       let p = one-test (isWithin t at) 3 (omega arith) in
       let q = one-test c k h in
-      let b = both-nine (cond (isWithin t at) 9 3) (cond c 9 k) (small-test (isWithin t at) 3 (omega arith)) (small-test c k h) in (
+      let b = both-none (cond (isWithin t at) noRefusal 3) (cond c noRefusal k) (small-test (isWithin t at) 3 (omega arith)) (small-test c k h) in (
         λ e. let (x, y) = b .0 e in (leb-true (at .start + at .len) (length t) (p .0 x), q .0 y),
         λ (x, y). b .1 (p .1 (le-leb (at .start + at .len) (length t) x), q .1 y),
       )
 
-  one-allowed : (k : Kind) (at : Span) → (refusalOf t k at ≡ 9) ↔ Allowed t (k, at)
+  one-allowed : (k : Kind) (at : Span) → (refusalOf t k at ≡ noRefusal) ↔ Allowed t (k, at)
   unfolding pastOf
   one-allowed named at =
       let g = two-tests at (isName (sliceOf t at)) 4 (omega arith) in
@@ -77,10 +78,10 @@ module _ (t : List ℕ) where
         λ a. p .1 (le-leb (at .start + at .len) (length t) (a .within)),
       )
 
-  pub all-allowed : (l : List (Kind × Span)) → (lowestOf t l ≡ 9) ↔ All (Allowed t) l
+  pub all-allowed : (l : List (Kind × Span)) → (lowestOf t l ≡ noRefusal) ↔ All (Allowed t) l
   all-allowed [] = (λ e. tt, λ a. refl)
   all-allowed (x ∷ l) =
-      let b = both-nine (refusalOf t (x .0) (x .1)) (lowestOf t l) (small (x .0) (x .1)) (lowest-small t l) in
+      let b = both-none (refusalOf t (x .0) (x .1)) (lowestOf t l) (small (x .0) (x .1)) (lowest-small t l) in
       let o = one-allowed (x .0) (x .1) in
       let r = all-allowed l in
       (λ e. let (p, q) = b .0 e in (o .0 p, r .0 q), λ (p, q). b .1 (o .1 p, r .1 q))

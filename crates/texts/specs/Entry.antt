@@ -12,7 +12,7 @@ use borrow.Author.Tests.{lt-ltb, le-ltb}
 use Rattle.format.specs.Parsed.{Parsed, got, got-rest, fail-got}
 use Rattle.format.specs.Read.{same-place}
 use Rattle.format.specs.Write.{over}
-use Rattle.format.specs.Count.{counted, countIn, lowIn, has-start, has-count, has-lowest}
+use Rattle.format.specs.Count.{noRefusal, counted, countIn, lowIn, has-start, has-count, has-lowest}
 use Rattle.format.specs.Walk.{Walks, Walked, Gone, not-found, gone}
 use Rattle.format.specs.declared.Done.{Done}
 use Rattle.format.specs.declared.Walk.{Walk}
@@ -56,7 +56,7 @@ module _ {A : Type 0} (R : Records A) (w t : List ℕ) where
     pub lowest : lowIn u ≡ min from (lowestOf t (R .texts value))
 
   pub measured : (old : List ℕ) (s : Done) (new : List ℕ) (r : Walk) → AddWalks old s new r → {p : ℕ} {u : Done} → r ≡ walks.Got p u → p ≡ length w
-      → length w ≤ wordsMost → {from : ℕ} → s .v ≡ from → from ≤ 9 → Measured from u
+      → length w ≤ wordsMost → {from : ℕ} → s .v ≡ from → from ≤ noRefusal → Measured from u
   measured old s new r h {p} {u} e all few {from} start low =
       let g = walk-gone old s new r h e in
       let end : drop p w ≡ [] = rw all (drop-length w) in
@@ -72,15 +72,15 @@ module _ {A : Type 0} (R : Records A) (w t : List ℕ) where
 
   -- what its texts draw is below it, or nothing
   abbrev pub Below : ℕ → A → Type 0
-  Below from a = (lowestOf t (R .texts a) < from) ⊎ (lowestOf t (R .texts a) ≡ 9)
+  Below from a = (lowestOf t (R .texts a) < from) ⊎ (lowestOf t (R .texts a) ≡ noRefusal)
 
   module _ {from : ℕ} {u : Done} (m : Measured from u) where
     pub long-text : textMost < length t → why R w t ≡ 3
     long-text h = rw (m .is, lt-ltb textMost (length t) h)
 
-    module _ (few : from ≤ 9) (below : Below from (m .value)) (short : length t ≤ textMost) where
+    module _ (few : from ≤ noRefusal) (below : Below from (m .value)) (short : length t ≤ textMost) where
       pub drawn-low : lowIn u < from → lowIn u ≡ lowestOf t (R .texts (m .value))
-      drawn-low h = ⊎-elim (λ (k : lowestOf t (R .texts (m .value)) < from). omega (arith, m .lowest)) (λ (k : lowestOf t (R .texts (m .value)) ≡ 9). absurd (omega (arith, m .lowest))) below
+      drawn-low h = ⊎-elim (λ (k : lowestOf t (R .texts (m .value)) < from). omega (arith, m .lowest)) (λ (k : lowestOf t (R .texts (m .value)) ≡ noRefusal). absurd (omega (arith, m .lowest))) below
 
       pub refused-text : lowIn u < from → why R w t ≡ lowIn u
       refused-text h =
@@ -89,8 +89,8 @@ module _ {A : Type 0} (R : Records A) (w t : List ℕ) where
           rw (m .is, le-ltb textMost (length t) short, e) (drawn-first t l ((6, ltb itemMost (length (R .item t (m .value)))) ∷ []) (omega (arith, e)))
 
       module _ (texts : from ≤ lowIn u) where
-        none-low : lowestOf t (R .texts (m .value)) ≡ 9
-        none-low = ⊎-elim (λ (k : lowestOf t (R .texts (m .value)) < from). absurd (omega (arith, m .lowest))) (λ (k : lowestOf t (R .texts (m .value)) ≡ 9). k) below
+        none-low : lowestOf t (R .texts (m .value)) ≡ noRefusal
+        none-low = ⊎-elim (λ (k : lowestOf t (R .texts (m .value)) < from). absurd (omega (arith, m .lowest))) (λ (k : lowestOf t (R .texts (m .value)) ≡ noRefusal). k) below
 
         pub large-item : itemMost < countIn u → why R w t ≡ 6
         large-item h =
@@ -105,7 +105,7 @@ module _ {A : Type 0} (R : Records A) (w t : List ℕ) where
 
   -- ---- a second walk over words that were accepted leaves the item, whatever refusal it starts with
 
-  pub second-walk : (old : List ℕ) (s : Done) (new : List ℕ) (r : Walk) → AddWalks old s new r → s .v ≤ 9 → why R w t ≡ 0
+  pub second-walk : (old : List ℕ) (s : Done) (new : List ℕ) (r : Walk) → AddWalks old s new r → s .v ≤ noRefusal → why R w t ≡ 0
       → length (itemIn R w t) ≤ length old → new ≡ over (itemIn R w t) old
   second-walk old s new r h l e room =
       let f = fine R w t e in

@@ -54,10 +54,10 @@ isBadExpr t (plain, at) = false
 abbrev pub drawn : List ℕ → List (Kind × Span) → List (ℕ × Bool)
 drawn t l = (3, anyOf (endsPast t) l) ∷ (4, anyOf (isBadName t) l) ∷ (5, anyOf (isBadExpr t) l) ∷ []
 
--- ---- the lowest refusal that texts draw is the first of the three; 9 stands for none of them
+-- ---- the lowest refusal that texts draw is the first of the three, or none
 
 abbrev first : Bool → Bool → Bool → ℕ
-first a b c = answer ((3, a) ∷ (4, b) ∷ (5, c) ∷ (9, true) ∷ [])
+first a b c = answer ((3, a) ∷ (4, b) ∷ (5, c) ∷ (noRefusal, true) ∷ [])
 
 -- with one refusal more
 and-first : (a b c : Bool) → (min 3 (first a b c) ≡ 3) × (min 4 (first a b c) ≡ first a true c) × (min 5 (first a b c) ≡ first a b true) × (min noRefusal (first a b c) ≡ first a b c)
@@ -66,30 +66,30 @@ and-first false true c = (refl, refl, refl, refl)
 and-first false false true = (refl, refl, refl, refl)
 and-first false false false = (refl, refl, refl, refl)
 
-and-name : (w u a b c : Bool) → min (min (cond w 9 3) (cond u 9 4)) (first a b c) ≡ first (not w || a) (not u || b) c
+and-name : (w u a b c : Bool) → min (min (cond w noRefusal 3) (cond u noRefusal 4)) (first a b c) ≡ first (not w || a) (not u || b) c
 and-name true true a b c = and-first a b c .3
 and-name true false a b c = and-first a b c .1
 and-name false true a b c = and-first a b c .0
 and-name false false a b c = and-first a b c .0
 
-and-expr : (w u a b c : Bool) → min (min (cond w 9 3) (cond u 9 5)) (first a b c) ≡ first (not w || a) b (not u || c)
+and-expr : (w u a b c : Bool) → min (min (cond w noRefusal 3) (cond u noRefusal 5)) (first a b c) ≡ first (not w || a) b (not u || c)
 and-expr true true a b c = and-first a b c .3
 and-expr true false a b c = and-first a b c .2
 and-expr false true a b c = and-first a b c .0
 and-expr false false a b c = and-first a b c .0
 
-and-data : (w a b c : Bool) → min (cond w 9 3) (first a b c) ≡ first (not w || a) b c
+and-data : (w a b c : Bool) → min (cond w noRefusal 3) (first a b c) ≡ first (not w || a) b c
 and-data true a b c = and-first a b c .3
 and-data false a b c = and-first a b c .0
 
-first-stays : (a b c : Bool) (n : ℕ) → first a b c < 9 → answer ((3, a) ∷ (4, b) ∷ (5, c) ∷ (n, true) ∷ []) ≡ first a b c
+first-stays : (a b c : Bool) (n : ℕ) → first a b c < noRefusal → answer ((3, a) ∷ (4, b) ∷ (5, c) ∷ (n, true) ∷ []) ≡ first a b c
 first-stays true b c n h = refl
 first-stays false true c n h = refl
 first-stays false false true n h = refl
 first-stays false false false n h = absurd (omega arith)
 
 module _ (t : List ℕ) where
-  pub lowest-is : (l : List (Kind × Span)) → lowestOf t l ≡ answer (drawn t l ++ ((9, true) ∷ []))
+  pub lowest-is : (l : List (Kind × Span)) → lowestOf t l ≡ answer (drawn t l ++ ((noRefusal, true) ∷ []))
   unfolding pastOf
   lowest-is [] = refl
   lowest-is ((named, at) ∷ l) =
@@ -98,18 +98,18 @@ module _ (t : List ℕ) where
       rw (lowest-is l) (and-expr (isWithin t at) (isExpr (sliceOf t at)) (anyOf (endsPast t) l) (anyOf (isBadName t) l) (anyOf (isBadExpr t) l))
   lowest-is ((plain, at) ∷ l) = rw (lowest-is l) (and-data (isWithin t at) (anyOf (endsPast t) l) (anyOf (isBadName t) l) (anyOf (isBadExpr t) l))
 
-  pub none-drawn : (l : List (Kind × Span)) → (lowestOf t l ≡ 9) ↔ NoneHolds (drawn t l)
+  pub none-drawn : (l : List (Kind × Span)) → (lowestOf t l ≡ noRefusal) ↔ NoneHolds (drawn t l)
   none-drawn l =
-      let g = given-exactly 9 true (drawn t l) [] (λ e. omega arith) refl refl in
+      let g = given-exactly noRefusal true (drawn t l) [] (λ e. omega arith) refl refl in
       (λ e. g .0 (sym (lowest-is l) ∙ e) .0, λ h. lowest-is l ∙ g .1 (h, refl))
 
   -- a refusal that they draw is the answer, whatever is judged later; where they draw none, that decides
-  pub drawn-first : (l : List (Kind × Span)) (later : List (ℕ × Bool)) → lowestOf t l < 9 → answer (drawn t l ++ later) ≡ lowestOf t l
+  pub drawn-first : (l : List (Kind × Span)) (later : List (ℕ × Bool)) → lowestOf t l < noRefusal → answer (drawn t l ++ later) ≡ lowestOf t l
   drawn-first l later h =
-      let k : first (anyOf (endsPast t) l) (anyOf (isBadName t) l) (anyOf (isBadExpr t) l) < 9 = rw (lowest-is l) at h in
+      let k : first (anyOf (endsPast t) l) (anyOf (isBadName t) l) (anyOf (isBadExpr t) l) < noRefusal = rw (lowest-is l) at h in
       rw (lowest-is l) (first-stays (anyOf (endsPast t) l) (anyOf (isBadName t) l) (anyOf (isBadExpr t) l) (answer later) k)
 
-  pub drawn-none : (l : List (Kind × Span)) (later : List (ℕ × Bool)) → lowestOf t l ≡ 9 → answer (drawn t l ++ later) ≡ answer later
+  pub drawn-none : (l : List (Kind × Span)) (later : List (ℕ × Bool)) → lowestOf t l ≡ noRefusal → answer (drawn t l ++ later) ≡ answer later
   drawn-none l later e = let (a, (b, (c, _))) = none-drawn l .0 e in rw (a, b, c)
 
 -- ---- records of any kind: their words, their texts, and the item that an add writes of one with a text
@@ -232,7 +232,7 @@ module _ {A : Type 0} (R : Records A) where
     pub value : A
     pub is : recordIn w ≡ some value
     pub short : length t ≤ textMost
-    pub texts : lowestOf t (R .texts value) ≡ 9
+    pub texts : lowestOf t (R .texts value) ≡ noRefusal
     pub fits : length (R .item t value) ≤ itemMost
 
   pub fine : (w t : List ℕ) → why w t ≡ 0 → Fine w t

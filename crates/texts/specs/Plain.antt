@@ -7,6 +7,7 @@ use Prim.Native.Nat.{ℕ, min}
 use native.Mathlib.Omega.{arith}
 use lib.ListN.{take, drop}
 use Rattle.format.specs.Lists.{All}
+use Rattle.format.specs.Count.{noRefusal}
 use Rattle.plain.specs.Plain.{IsPlain}
 use Rattle.names.specs.Name.{isName}
 use Rattle.names.specs.Plain.{plain-name, plain-part}
@@ -28,7 +29,7 @@ module _ (t : List ℕ) (p : IsPlain t) where
 
   -- it draws 3 or nothing
   abbrev Only : ℕ → Type 0
-  Only n = (n ≡ 3) ⊎ (n ≡ 9)
+  Only n = (n ≡ 3) ⊎ (n ≡ noRefusal)
 
   only-min : (a b : ℕ) → Only a → Only b → Only (min a b)
   only-min a b (inl e) k = inl (three k)
@@ -43,7 +44,7 @@ module _ (t : List ℕ) (p : IsPlain t) where
   unfolding pastOf
   name-only at = rw (held-name at) (go (isWithin t at))
     where
-      go : (c : Bool) → Only (min (cond c 9 3) 9)
+      go : (c : Bool) → Only (min (cond c noRefusal 3) noRefusal)
       go true = inr refl
       go false = inl refl
 

@@ -11,6 +11,7 @@ use borrow.Author.Tests.{le-leb, leb-true}
 use Rattle.format.specs.Parsed.{fail, got, fail-got}
 use Rattle.format.specs.Format.{refuses}
 use Rattle.format.specs.Lists.{All}
+use Rattle.format.specs.Count.{noRefusal}
 use Rattle.texts.specs.Text.{lowestOf}
 use Rattle.texts.specs.Allowed.{Allowed, all-allowed}
 use Rattle.texts.specs.Judge.{Records, wordsMost, textMost, itemMost, recordIn, itemIn, why, record-inv, record-back, fine, fine-accepted}
@@ -29,7 +30,7 @@ module _ {A B C : Type 0} (S : Section A B) (R : Records C) (among : Among S R) 
       item-ok =
           let f = fine R w t y in
           let v : f .value ≡ among .into a = cc (f .is) in
-          let l : lowestOf t (S .texts a) ≡ 9 = ap (lowestOf t) (sym (among .texts a) ∙ ap (R .texts) (sym v)) ∙ f .texts in
+          let l : lowestOf t (S .texts a) ≡ noRefusal = ap (lowestOf t) (sym (among .texts a) ∙ ap (R .texts) (sym v)) ∙ f .texts in
           S .resolve-ok t a (among .ok a .0 (record-inv R w (among .into a) p .0)) (all-allowed t (S .texts a) .0 l)
 
       few-words : length (readWords S (S .resolve t a)) ≤ wordsMost
@@ -62,7 +63,7 @@ module _ {A B C : Type 0} (S : Section A B) (R : Records C) (among : Among S R) 
       let is : recordIn R w ≡ some (among .into a) =
       record-back R w (among .into a) (among .ok a .1 (S .locate-ok [] r x ok (rw q at h))) (sym (among .prints a)) (leb-true (length w) wordsMost f) in
       let allowed : All (Allowed s) (S .texts a) = rw q (S .locate-texts [] r x ok) in
-      let none : lowestOf s (R .texts (among .into a)) ≡ 9 = ap (lowestOf s) (among .texts a) ∙ all-allowed s (S .texts a) .1 allowed in
+      let none : lowestOf s (R .texts (among .into a)) ≡ noRefusal = ap (lowestOf s) (among .texts a) ∙ all-allowed s (S .texts a) .1 allowed in
       let fits : length (R .item s (among .into a)) ≤ itemMost = rw item (omega arith) in
       record {
         is = is;

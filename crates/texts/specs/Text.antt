@@ -8,6 +8,7 @@ use native.Mathlib.Omega.{arith}
 use lib.Dec.{eqb, leb}
 use lib.ListN.{length, take, drop, length-take, length-drop}
 use borrow.Author.Tests.{le-leb, lt-leb}
+use Rattle.format.specs.Count.{noRefusal}
 use Rattle.names.specs.Name.{isName}
 use Rattle.exprs.specs.Scan.{answer}
 use Rattle.texts.specs.declared.Span.{Span}
@@ -39,26 +40,26 @@ abbrev pub notKind : Bool → ℕ
 notKind true = 4
 notKind false = 5
 
--- document 01, Answers by number: a span ends past the text, 3; a name is not UTF-8, 4; an expression is not as above, 5. 9 stands for none of them
+-- document 01, Answers by number: a span ends past the text, 3; a name is not UTF-8, 4; an expression is not as above, 5
 unfoldable pub pastOf : List ℕ → Span → ℕ
-pastOf text at = cond (isWithin text at) 9 3
+pastOf text at = cond (isWithin text at) noRefusal 3
 
 -- the lowest that a text draws
 abbrev pub refusalOf : List ℕ → Kind → Span → ℕ
-refusalOf text named at = min (pastOf text at) (cond (isName (sliceOf text at)) 9 4)
-refusalOf text constant at = min (pastOf text at) (cond (isExpr (sliceOf text at)) 9 5)
+refusalOf text named at = min (pastOf text at) (cond (isName (sliceOf text at)) noRefusal 4)
+refusalOf text constant at = min (pastOf text at) (cond (isExpr (sliceOf text at)) noRefusal 5)
 refusalOf text plain at = pastOf text at
 
 -- the lowest that any of a record's texts draws
 abbrev pub lowestOf : List ℕ → List (Kind × Span) → ℕ
-lowestOf text [] = 9
+lowestOf text [] = noRefusal
 lowestOf text (x ∷ xs) = min (refusalOf text (x .0) (x .1)) (lowestOf text xs)
 
-pub lowest-small : (text : List ℕ) (xs : List (Kind × Span)) → lowestOf text xs ≤ 9
+pub lowest-small : (text : List ℕ) (xs : List (Kind × Span)) → lowestOf text xs ≤ noRefusal
 lowest-small text [] = omega arith
 lowest-small text (x ∷ xs) = small (refusalOf text (x .0) (x .1)) (lowestOf text xs) (lowest-small text xs)
   where
-    small : (a b : ℕ) → b ≤ 9 → min a b ≤ 9
+    small : (a b : ℕ) → b ≤ noRefusal → min a b ≤ noRefusal
     small a b h = omega arith
 
 module _ (text : List ℕ) (at : Span) where
@@ -67,7 +68,7 @@ module _ (text : List ℕ) (at : Span) where
     unfolding sliceOf
     slice-in = rw (le-leb (at .start + at .len) (length text) h)
 
-    pub past-in : pastOf text at ≡ 9
+    pub past-in : pastOf text at ≡ noRefusal
     unfolding pastOf
     past-in = rw (le-leb (at .start + at .len) (length text) h)
 
@@ -83,11 +84,11 @@ module _ (text : List ℕ) (at : Span) where
     unfolding pastOf
     past-past = rw (lt-leb (at .start + at .len) (length text) h)
 
-  pub past-small : pastOf text at ≤ 9
+  pub past-small : pastOf text at ≤ noRefusal
   unfolding pastOf
   past-small = go (isWithin text at)
     where
-      go : (c : Bool) → cond {A = ℕ} c 9 3 ≤ 9
+      go : (c : Bool) → cond {A = ℕ} c noRefusal 3 ≤ noRefusal
       go true = omega arith
       go false = omega arith
 
@@ -96,7 +97,7 @@ module _ (text : List ℕ) (at : Span) where
   cut-is h = let e : at .start + at .len - at .start ≡ at .len = omega arith in rw (e, slice-in h)
 
 -- no lower refusal than 3 is drawn
-drawn-least : (c : Bool) (k : ℕ) → 3 ≤ k → 3 ≤ cond c 9 k
+drawn-least : (c : Bool) (k : ℕ) → 3 ≤ k → 3 ≤ cond c noRefusal k
 drawn-least true k h = omega arith
 drawn-least false k h = h
 

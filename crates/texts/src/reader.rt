@@ -12,12 +12,13 @@ ghost use Rattle.format.specs.Count.{Appends};
 ghost use Rattle.format.specs.Sized.{sized};
 ghost use Rattle.leb128.specs.Formats.{u32};
 ghost use Rattle.exprs.specs.Laws.{expr};
+ghost use Rattle.texts.specs.Judge.{textMost};
 ghost use Rattle.texts.specs.Words.{span};
 ghost use Rattle.texts.specs.Place.{spanAt, sizedAt, textAt};
 
 // Data behind its length.
 pub fn find_data(bytes: &[u8], at: usize) -> TextAt
-    requires { ⌜ length (now bytes) ≤ 65536 ⌝ }
+    requires { ⌜ length (now bytes) ≤ textMost ⌝ }
     ensures { λ r. ⌜ r ≡ textAt (sizedAt at) (sized u32 .parse (drop at (now (bytes .entry)))) ⌝ }
 {
     let ReadU32::Value(n, p) = numbers::decode_u32(bytes, at) else {
@@ -34,7 +35,7 @@ pub fn find_data(bytes: &[u8], at: usize) -> TextAt
 
 // An expression, up to its 0B.
 pub fn find_expr(bytes: &[u8], at: usize) -> TextAt
-    requires { ⌜ length (now bytes) ≤ 65536 ⌝ }
+    requires { ⌜ length (now bytes) ≤ textMost ⌝ }
     ensures { λ r. ⌜ r ≡ textAt (spanAt at) (expr .parse (drop at (now (bytes .entry)))) ⌝ }
 {
     if bytes.len() < at {

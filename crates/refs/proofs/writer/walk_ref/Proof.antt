@@ -3,7 +3,7 @@ use native.Mathlib.Omega.{arith}
 use Rattle.format.specs.Walk.{nothing-left}
 use Rattle.types.specs.Words.{refWords}
 use Rattle.types.specs.TwoWords.{one-left}
-use Rattle.refs.proofs.Words.{ref-missing, ref-there}
+use Rattle.refs.proofs.Words.{ref-words-missing, ref-words-there}
 use borrow.Author.Needs.{needs}
 use Rattle.refs.proofs.writer.walk_ref.Statement.{statement}
 use Rattle.refs.proofs.writer.walk_ref.Tie as tie
@@ -23,8 +23,8 @@ walk-ref-spec =
     (λ c κs. search needs)
     (λ c. search needs)
     (λ c. search needs)
-    (λ c. search ref-missing)
+    (λ c. search ref-words-missing)
     (λ c. search needs)
     (λ c κs. search needs)
     (λ c. search needs)
-    (λ c. search ref-there))
+    (λ c. search ref-words-there))
