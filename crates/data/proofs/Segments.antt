@@ -30,33 +30,33 @@ use Rattle.parts.specs.Text.{content}
 use Rattle.parts.specs.Writing.{Writing}
 use Rattle.parts.specs.Reading.{Reading, recordAt}
 use Rattle.parts.specs.Chosen.{chosen-writing, chosen-reading}
-use Rattle.data.specs.Segment.{memoryBytes, Mode, passive, active, SegmentOf, form, modeCode, modeWord, modeAt, bytes, dataSection}
+use Rattle.data.specs.Segment.{memoryIndexBytes, Mode, passive, active, SegmentOf, form, modeCode, modeWord, modeAt, bytes, dataSection}
 
 -- ---- a memory
 
 module _ (m : ℕ) {old : List ℕ} {s : Done} {new : List ℕ} {u : Done} where
-  pub zero-added : m ≡ 0 → Appends (0 ∷ []) old s new u → Appends (memoryBytes .print m) old s new u
-  zero-added e a = rw e a
+  pub first-memory-added : m ≡ 0 → Appends (0 ∷ []) old s new u → Appends (memoryIndexBytes .print m) old s new u
+  first-memory-added e a = rw e a
 
-  pub other-added : {cur : List ℕ} {t : Done} → (m ≡ 0 → ⊥) → Appends (2 ∷ []) old s cur t → Appends (uleb m) cur t new u → Appends (memoryBytes .print m) old s new u
-  other-added n a b = rw (ne-eqb m 0 n) (adds-seq a b)
+  pub other-memory-added : {cur : List ℕ} {t : Done} → (m ≡ 0 → ⊥) → Appends (2 ∷ []) old s cur t → Appends (uleb m) cur t new u → Appends (memoryIndexBytes .print m) old s new u
+  other-memory-added n a b = rw (ne-eqb m 0 n) (adds-seq a b)
 
 module _ {b : List ℕ} {at : ℕ} (h : at < length b) {old : List ℕ} {s : Done} {new : List ℕ} where
-  pub zero-there : {u : Done} → getD b at 0 ≡ 0 → Appends (0 ∷ []) old s new u → Walks memoryBytes (word .print) silent b at old s new (walks.Got (at + 1) u)
+  pub zero-there : {u : Done} → getD b at 0 ≡ 0 → Appends (0 ∷ []) old s new u → Walks memoryIndexBytes (word .print) silent b at old s new (walks.Got (at + 1) u)
   zero-there e a = value-there {a = 0} a (rw (drop-more b at h, e)) (omega arith)
 
-  pub no-memory : (getD b at 0 ≡ 0 → ⊥) → (getD b at 0 ≡ 2 → ⊥) → Walks memoryBytes (word .print) silent b at old s new walks.No
+  pub no-memory : (getD b at 0 ≡ 0 → ⊥) → (getD b at 0 ≡ 2 → ⊥) → Walks memoryIndexBytes (word .print) silent b at old s new walks.No
   no-memory n o = nothing-there (rw (drop-more b at h, ne-eqb (getD b at 0) 0 n, ne-eqb (getD b at 0) 2 o))
 
   module _ (e : getD b at 0 ≡ 2) {r : ReadU32} (d : readU32 r ≡ reading 0 b (u32 .parse (drop (at + 1) b))) where
-    pub other-missing : r ≡ U32.Nothing → Walks memoryBytes (word .print) silent b at old s new walks.No
+    pub other-missing : r ≡ U32.Nothing → Walks memoryIndexBytes (word .print) silent b at old s new walks.No
     other-missing i = nothing-there (rw (drop-more b at h, e, number-missing u32 b (at + 1) r d i))
 
     module _ {m p : ℕ} (i : r ≡ U32.Value m p) where
-      pub other-zero : m ≡ 0 → Walks memoryBytes (word .print) silent b at old s new walks.No
+      pub other-zero : m ≡ 0 → Walks memoryIndexBytes (word .print) silent b at old s new walks.No
       other-zero z = nothing-there (rw (drop-more b at h, e, number-found u32 b (at + 1) r d i, z))
 
-      pub other-there : {u : Done} → (m ≡ 0 → ⊥) → Appends (m ∷ []) old s new u → Walks memoryBytes (word .print) silent b at old s new (walks.Got p u)
+      pub other-there : {u : Done} → (m ≡ 0 → ⊥) → Appends (m ∷ []) old s new u → Walks memoryIndexBytes (word .print) silent b at old s new (walks.Got p u)
       other-there n a = value-there {a = m} a (rw (drop-more b at h, e, number-found u32 b (at + 1) r d i, ne-eqb m 0 n)) (number-place u32 b (at + 1) r d i)
 
 -- ---- words
@@ -108,7 +108,7 @@ module _ {t w : List ℕ} {at : ℕ} {old : List ℕ} {s : Done} {new : List ℕ
             (rw (drop-three w at (omega arith), x, y, z, span-in w (at + 3) (at + 4) (at + 5) (omega arith) (omega arith) h k)) h;
       }
 
-  pub active-there : {o₁ o₂ : List ℕ} {s₁ s₂ u : Done} → Appends (memoryBytes .print (getD w at 0)) old s o₁ s₁
+  pub active-there : {o₁ o₂ : List ℕ} {s₁ s₂ u : Done} → Appends (memoryIndexBytes .print (getD w at 0)) old s o₁ s₁
       → Adds (sliceOf t (spanIn w (at + 1) (at + 2))) (refusalOf t constant (spanIn w (at + 1) (at + 2))) o₁ s₁ o₂ s₂
       → Adds (sized u32 .print (sliceOf t (spanIn w (at + 3) (at + 4)))) (refusalOf t plain (spanIn w (at + 3) (at + 4))) o₂ s₂ new u → AreWords w
       → Writing (form active) t w at old s new (walks.Got (at + 5) u)

@@ -24,48 +24,48 @@ use Rattle.parts.specs.Chosen.{chosen}
 
 -- ---- a memory: in bytes, 0 is 00, another one 02 and its index
 
-abbrev pub memoryTo : ℕ → Unit {0} ⊎ ℕ
-memoryTo m = cond (is 0 m) (inl tt) (inr m)
+abbrev pub indexTo : ℕ → Unit {0} ⊎ ℕ
+indexTo m = cond (is 0 m) (inl tt) (inr m)
 
-abbrev pub memoryOf : Unit {0} ⊎ ℕ → Option ℕ
-memoryOf (inl u) = some 0
-memoryOf (inr m) = cond (is 0 m) none (some m)
+abbrev pub indexOf : Unit {0} ⊎ ℕ → Option ℕ
+indexOf (inl u) = some 0
+indexOf (inr m) = cond (is 0 m) none (some m)
 
 abbrev pub zeroOrOther : Format (Unit {0} ⊎ ℕ)
 zeroOrOther = alt (is 0) (lit 0) (tag 2 u32) (heads-tag 0 empty (is 0) true refl) (heads-tag 2 u32 (is 0) false refl)
 
-pub memory-fits : (m : ℕ) → m < 2 ^ 32 → zeroOrOther .Ok (memoryTo m)
-memory-fits m h = go (is 0 m)
+pub index-fits : (m : ℕ) → m < 2 ^ 32 → zeroOrOther .Ok (indexTo m)
+index-fits m h = go (is 0 m)
   where
     go : (c : Bool) → altOk (is 0) (lit 0) (tag 2 u32) (cond c (inl tt) (inr m))
     go true = tt
     go false = h
 
-pub memory-of-to : (m : ℕ) → m < 2 ^ 32 → memoryOf (memoryTo m) ≡ some m
-memory-of-to m h = go (is 0 m) refl
+pub index-of-to : (m : ℕ) → m < 2 ^ 32 → indexOf (indexTo m) ≡ some m
+index-of-to m h = go (is 0 m) refl
   where
-    go : (c : Bool) → is 0 m ≡ c → memoryOf (cond c (inl tt) (inr m)) ≡ some m
+    go : (c : Bool) → is 0 m ≡ c → indexOf (cond c (inl tt) (inr m)) ≡ some m
     go true e = ap some (sym (eqb-true m 0 e))
     go false e = rw e
 
-pub memory-to-of : (x : Unit {0} ⊎ ℕ) (m : ℕ) → zeroOrOther .Ok x → memoryOf x ≡ some m → (m < 2 ^ 32) × (x ≡ memoryTo m)
-memory-to-of (inl u) m h e = let z : m ≡ 0 = cc in (omega arith, rw z)
-memory-to-of (inr n) m h e = go (is 0 n) refl e
+pub index-to-of : (x : Unit {0} ⊎ ℕ) (m : ℕ) → zeroOrOther .Ok x → indexOf x ≡ some m → (m < 2 ^ 32) × (x ≡ indexTo m)
+index-to-of (inl u) m h e = let z : m ≡ 0 = cc in (omega arith, rw z)
+index-to-of (inr n) m h e = go (is 0 n) refl e
   where
-    go : (c : Bool) → is 0 n ≡ c → cond c none (some n) ≡ some m → (m < 2 ^ 32) × (inr n ≡ memoryTo m)
+    go : (c : Bool) → is 0 n ≡ c → cond c none (some n) ≡ some m → (m < 2 ^ 32) × (inr n ≡ indexTo m)
     go true i q = let z : _≡_ {A = ℕ} 0 1 = cc in absurd (omega arith)
     go false i q = let z : n ≡ m = cc in (rw z at h, rw (← z, i))
 
-abbrev pub memoryBytes : Format ℕ
-memoryBytes =
-    via zeroOrOther (record { OkA = λ m. m < 2 ^ 32; to = memoryTo; of = memoryOf; fits = memory-fits; of-to = memory-of-to; to-of = memory-to-of })
+abbrev pub memoryIndexBytes : Format ℕ
+memoryIndexBytes =
+    via zeroOrOther (record { OkA = λ m. m < 2 ^ 32; to = indexTo; of = indexOf; fits = index-fits; of-to = index-of-to; to-of = index-to-of })
 
 -- a word in a record
-pub memory-agree : Agree word memoryBytes
-memory-agree m = (λ h. h, λ h. h)
+pub index-agree : Agree word memoryIndexBytes
+index-agree m = (λ h. h, λ h. h)
 
-abbrev pub memory : Section ℕ ℕ
-memory = textless word memoryBytes memory-agree
+abbrev pub memoryIndex : Section ℕ ℕ
+memoryIndex = textless word memoryIndexBytes index-agree
 
 -- ---- passive: data; active: a memory, the offset and data
 
@@ -83,7 +83,7 @@ Segment S = (m : Mode) × SegmentOf m S
 -- bytes: active in memory 0 is 00 offset, in another memory 02 memory offset, passive 01; then length and bytes
 abbrev pub form : (m : Mode) → Section (SegmentOf m Span) (SegmentOf m (List ℕ))
 form passive = behind 1 (tagged 0 (tagged 0 (tagged 0 content)))
-form active = both memory (both expression content)
+form active = both memoryIndex (both expression content)
 
 -- the mode word
 abbrev pub modeCode : Mode → ℕ
@@ -104,10 +104,10 @@ modeAt [] = active
 modeAt (x ∷ s) = cond (is 1 x) passive active
 
 pub active-heads : Heads (form active .bytes) (is 1) false
-active-heads = heads-pair memoryBytes (both expression content .bytes) (is 1) false (λ m ok. memory-heads (memoryTo m) (memory-fits m ok))
+active-heads = heads-pair memoryIndexBytes (both expression content .bytes) (is 1) false (λ m ok. index-heads (indexTo m) (index-fits m ok))
   where
-    memory-heads : Heads zeroOrOther (is 1) false
-    memory-heads = heads-alt (is 0) (lit 0) (tag 2 u32) (is 1) false (heads-tag 0 empty (is 1) false refl) (heads-tag 2 u32 (is 1) false refl)
+    index-heads : Heads zeroOrOther (is 1) false
+    index-heads = heads-alt (is 0) (lit 0) (tag 2 u32) (is 1) false (heads-tag 0 empty (is 1) false refl) (heads-tag 2 u32 (is 1) false refl)
 
 pub mode-told : (m : Mode) (x : SegmentOf m (List ℕ)) (r : List ℕ) → form m .bytes .Ok x → modeAt (form m .bytes .print x ++ r) ≡ m
 mode-told passive x r ok = refl

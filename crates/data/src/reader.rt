@@ -13,11 +13,11 @@ ghost use Rattle.format.specs.Walk.{Walks};
 ghost use Rattle.texts.specs.Judge.{textMost};
 ghost use Rattle.texts.specs.Words.{word};
 ghost use Rattle.parts.specs.Reading.{Reading};
-ghost use Rattle.data.specs.Segment.{memoryBytes, active, form, dataSection};
+ghost use Rattle.data.specs.Segment.{memoryIndexBytes, active, form, dataSection};
 
 // 00 is memory 0, 02 another one.
 fn read_memory(b: &[u8], at: usize, out: &mut [u32], s: Done) -> Walk
-    ensures { λ r. ⌜ Walks memoryBytes (word .print) silent (now (b .entry)) at (now (out .entry)) s (now (out .exit)) r ⌝ }
+    ensures { λ r. ⌜ Walks memoryIndexBytes (word .print) silent (now (b .entry)) at (now (out .entry)) s (now (out .exit)) r ⌝ }
 {
     if b.len() <= at {
         return Walk::No;

@@ -10,11 +10,11 @@ ghost use Prim.Native.Nat.{_+_, _≤_};
 ghost use lib.ListN.{length};
 ghost use Rattle.format.specs.Count.{Appends};
 ghost use Rattle.parts.specs.Writing.{Writing};
-ghost use Rattle.data.specs.Segment.{memoryBytes, passive, active, form, dataSection};
+ghost use Rattle.data.specs.Segment.{memoryIndexBytes, passive, active, form, dataSection};
 
 // Memory 0 is 00, another one 02 and its index.
 fn append_memory(m: u32, out: &mut [u8], s: Done) -> Done
-    ensures { λ r. ⌜ Appends (memoryBytes .print m) (now (out .entry)) s (now (out .exit)) r ⌝ }
+    ensures { λ r. ⌜ Appends (memoryIndexBytes .print m) (now (out .entry)) s (now (out .exit)) r ⌝ }
 {
     if m == 0 {
         return append_byte(0, out, s);

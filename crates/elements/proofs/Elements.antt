@@ -1,19 +1,17 @@
 -- The elements of a segment in words: the kind, and functions, or a type and expressions. Assumes nothing.
-use mathlib.Core.Path.{_≡_, refl, sym, subst, _∙_}
+use mathlib.Core.Path.{_≡_, refl, sym, subst}
 use mathlib.Core.Bool.{Bool, true, false, not}
-use mathlib.Core.Option.{none, some}
 use mathlib.Core.List.{List, [], _∷_}
 use Prim.Native.Nat.{ℕ, _+_, _-_, _<_, _≤_, min}
-use native.Mathlib.Omega.{arith}
 use lib.Dec.{eqb}
 use lib.ListN.{length, getD, drop}
 use Rattle.format.specs.Parsed.{map-same}
 use Rattle.format.specs.Basic.{bit, flag}
 use Rattle.format.specs.Count.{Appends, noRefusal, silent, adds-nil, adds-seq}
 use Rattle.format.specs.Lists.{many}
-use Rattle.format.specs.Read.{one-read, none-read, too-few}
+use Rattle.format.specs.Read.{one-read, none-read}
 use Rattle.format.specs.Sequence.{Joins, leaves, pair-plain, dep-known, first-missing, second-follows}
-use Rattle.format.specs.Walk.{Walks, nothing-there, value-there, walks-as}
+use Rattle.format.specs.Walk.{Walks, nothing-there, walks-as}
 use Rattle.format.specs.declared.Done.{Done}
 use Rattle.format.specs.declared.Walk.{Walk}
 use Rattle.format.specs.declared.Walk.the-variants as walks
@@ -24,11 +22,11 @@ use Rattle.texts.specs.declared.Span.{Span}
 use Rattle.types.specs.Words.{refWords, refOf, refTo}
 use Rattle.types.specs.Bytes.{refBytes}
 use Rattle.types.specs.Vals.{unused}
-use Rattle.types.specs.Answers.{refAns, ref-some, ref-none}
+use Rattle.types.specs.Answers.{refAns}
 use Rattle.types.specs.declared.RefRead.{RefRead}
 use Rattle.types.specs.declared.RefRead.the-variants as refs
 use Rattle.types.specs.declared.RefType.{RefType}
-use Rattle.refs.proofs.Words.{ref-two}
+use Rattle.refs.proofs.Words.{ref-words-there}
 use Rattle.parts.specs.Text.{expression}
 use Rattle.parts.specs.Listed.{textsOf, listed}
 use Rattle.parts.specs.Writing.{Writing, itemOf, lowOf, lowest-behind}
@@ -52,31 +50,15 @@ module _ {other : Bool} (m : Mode) (e : Bool) {old : List ℕ} {s : Done} {new :
   pub flag-added : other ≡ false → {f : ℕ} → f ≡ flagOf m e → Appends (f ∷ []) old s new u → Appends (headOf other m e) old s new u
   flag-added o f a = subst (λ (k : Bool). Appends (headOf k m e) old s new u) (sym o) (subst (λ (n : ℕ). Appends (n ∷ []) old s new u) f a)
 
--- ---- the type
+-- ---- the type, which is written where it is said
 
 module _ (said : Bool) {w : List ℕ} {at : ℕ} {old : List ℕ} {s : Done} where
   pub type-said : said ≡ true → {new : List ℕ} {r : Walk} → Walks refWords (refBytes .print) silent w at old s new r → Walks refWords (typeOf said) silent w at old s new r
   type-said t {new} {r} x = subst (λ (k : Bool). Walks refWords (typeOf k) silent w at old s new r) (sym t) x
 
-  module _ {new : List ℕ} where
-    few : length w < at + 2 → Walks refWords (typeOf said) silent w at old s new walks.No
-    few h = nothing-there (too-few refWords 2 (omega arith) (λ r ok. omega arith) w at h)
-
-    pub type-end : length w ≤ at → Walks refWords (typeOf said) silent w at old s new walks.No
-    type-end h = few (omega arith)
-
-    pub type-short : at < length w → length w - at < 2 → Walks refWords (typeOf said) silent w at old s new walks.No
-    type-short h k = few (omega arith)
-
-  module _ (h : at < length w) (k : 2 ≤ length w - at) {found : RefRead} (d : found ≡ refAns (refOf (getD w at 0, getD w (at + 1) 0))) where
-    pub type-none : {new : List ℕ} → found ≡ refs.No → AreWords w → Walks refWords (typeOf said) silent w at old s new walks.No
-    type-none e i =
-        nothing-there (ref-two w at (omega arith) (i at .fits) (i (at + 1) .fits) none (ref-none (refOf (getD w at 0, getD w (at + 1) 0)) (sym d ∙ e)))
-
-    pub type-there : said ≡ false → {x : RefType} → found ≡ refs.Ref x → AreWords w → Walks refWords (typeOf said) silent w at old s old (walks.Got (at + 2) s)
-    type-there t {x} e i =
-        subst (λ (j : Bool). Walks refWords (typeOf j) silent w at old s old (walks.Got (at + 2) s)) (sym t)
-        (value-there {a = x} (adds-nil old s) (ref-two w at (omega arith) (i at .fits) (i (at + 1) .fits) (some x) (ref-some (refOf (getD w at 0, getD w (at + 1) 0)) x (sym d ∙ e))) (omega arith))
+  pub type-unsaid : at < length w → 2 ≤ length w - at → {found : RefRead} → found ≡ refAns (refOf (getD w at 0, getD w (at + 1) 0)) → said ≡ false → {x : RefType} → found ≡ refs.Ref x
+      → AreWords w → Walks refWords (typeOf said) silent w at old s old (walks.Got (at + 2) s)
+  type-unsaid h k d t e i = subst (λ (j : Bool). Walks refWords (typeOf j) silent w at old s old (walks.Got (at + 2) s)) (sym t) (ref-words-there h k d e (adds-nil old s) i)
 
 -- ---- a type, and expressions
 

@@ -11,7 +11,7 @@ use Rattle.format.specs.Parsed.{fail, got}
 use Rattle.format.specs.Count.{Appends}
 use Rattle.format.specs.Read.{one-read, none-read}
 use Rattle.format.specs.Sequence.{dep-known}
-use Rattle.format.specs.Walk.{nothing-left, nothing-there, walks-as}
+use Rattle.format.specs.Walk.{nothing-there, walks-as}
 use Rattle.format.specs.declared.Done.{Done}
 use Rattle.format.specs.declared.Walk.{Walk}
 use Rattle.format.specs.declared.Walk.the-variants as walks
@@ -24,12 +24,9 @@ use Rattle.elements.specs.declared.Mode.{Mode}
 use Rattle.elements.proofs.Lists.{as-members}
 
 module _ {b : List ℕ} {at : ℕ} {old : List ℕ} {s : Done} {new : List ℕ} where
-  pub item-end : length b ≤ at → Reading elementSection b at old s new walks.No
-  item-end h = record { reads = λ k. nothing-left h refl }
-
   module _ (h : at < length b) where
-    pub flag-large : 7 < getD b at 0 → Reading elementSection b at old s new walks.No
-    flag-large l = record { reads = λ k. nothing-there (rw e) }
+    pub no-such-flag : 7 < getD b at 0 → Reading elementSection b at old s new walks.No
+    no-such-flag l = record { reads = λ k. nothing-there (rw e) }
       where
         e : flagByte .parse (drop at b) ≡ fail
         e = none-read flagByte code (λ f. refl) b at h (λ f p. omega (arith, flag-small f))

@@ -7,7 +7,7 @@ use native.Mathlib.Omega.{arith}
 use lib.ListN.{length, getD}
 use Rattle.format.specs.Count.{Appends, silent, adds-seq}
 use Rattle.format.specs.Lists.{many}
-use Rattle.format.specs.Walk.{Walks, nothing-there}
+use Rattle.format.specs.Walk.{Walks, nothing-left, nothing-there}
 use Rattle.format.specs.declared.Done.{Done}
 use Rattle.format.specs.declared.Walk.{Walk}
 use Rattle.format.specs.declared.Walk.the-variants as walks
@@ -22,7 +22,7 @@ use Rattle.parts.specs.Both.{both}
 use Rattle.parts.specs.Listed.{listed}
 use Rattle.parts.specs.Reading.{Reading, part-missing, part-follows, behind-reads, words-before}
 use Rattle.elements.specs.Members.{indices, functions, refType, expressions, funcrefs, members}
-use Rattle.elements.proofs.Tags.{tag-end, tag-not, stands, expr-long}
+use Rattle.elements.proofs.Tags.{tag-not, stands, expr-long}
 
 -- an expression takes a byte, and its span a word
 pub byte-each : (x : List ℕ) → expr .Ok x → 0 < length (expr .print x)
@@ -39,7 +39,7 @@ module _ {said : Bool} {b : List ℕ} {at : ℕ} {old : List ℕ} {s : Done} {ne
   module _ (t : said ≡ true) where
     -- 00 says that they are functions
     pub functions-end : length b ≤ at → Reading (members false said) b at old s new walks.No
-    functions-end h = as-members false t (record { reads = λ k. nothing-there (tag-end 0x00 (many u32 u32) b at h) })
+    functions-end h = as-members false t (record { reads = λ k. nothing-left h refl })
 
     module _ (h : at < length b) where
       pub functions-not : (getD b at 0 ≡ 0 → ⊥) → Reading (members false said) b at old s new walks.No

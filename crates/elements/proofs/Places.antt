@@ -1,7 +1,7 @@
 -- Where the elements of a segment go: what the walks over a place are by the mode. Assumes nothing.
 use mathlib.Core.Path.{_≡_, refl, sym, subst}
 use mathlib.Core.List.{List, [], _∷_}
-use Prim.Native.Nat.{ℕ, _+_, _<_, _≤_}
+use Prim.Native.Nat.{ℕ, _+_, _<_}
 use lib.ListN.{length, getD}
 use Rattle.format.specs.Count.{Appends, silent, adds-seq}
 use Rattle.format.specs.Walk.{Walks, nothing-there, value-there}
@@ -19,7 +19,7 @@ use Rattle.parts.specs.Writing.{Writing}
 use Rattle.elements.specs.Mode.{modeWords, nowhere, tableIndex, place}
 use Rattle.elements.specs.declared.Mode.{Mode}
 use Rattle.elements.specs.declared.Mode.the-variants.{Active, Passive, ActiveTable, Declared}
-use Rattle.elements.proofs.Tags.{tag-end, tag-not, tag-walks}
+use Rattle.elements.proofs.Tags.{tag-not, tag-walks}
 
 -- ---- the words of a mode
 
@@ -64,22 +64,15 @@ pub writes-in : (n : Mode) {m : Mode} {t w : List ℕ} {at : ℕ} {old : List �
     → Writing (place m) t w at old s new r
 writes-in n {m} {t} {w} {at} {old} {s} {new} {r} e x = subst (λ (k : Mode). Writing (place k) t w at old s new r) (sym e) x
 
-module _ {w : List ℕ} {at : ℕ} {s : Done} where
-  pub nowhere-end : length w ≤ at → (t out : List ℕ) → Writing nowhere t w at out s out walks.No
-  nowhere-end h t out = record { writes = nothing-there (tag-end 0 unused w at h) }
+module _ {w : List ℕ} {at : ℕ} {s : Done} (h : at < length w) where
+  pub nowhere-not : (getD w at 0 ≡ 0 → ⊥) → (t out : List ℕ) → Writing nowhere t w at out s out walks.No
+  nowhere-not n t out = record { writes = nothing-there (tag-not 0 unused w at h n) }
 
-  module _ (h : at < length w) where
-    pub nowhere-not : (getD w at 0 ≡ 0 → ⊥) → (t out : List ℕ) → Writing nowhere t w at out s out walks.No
-    nowhere-not n t out = record { writes = nothing-there (tag-not 0 unused w at h n) }
-
-    pub nowhere-writes : {r : Walk} → getD w at 0 ≡ 0 → ((o : List ℕ) → Walks unused (λ x. []) silent w (at + 1) o s o r) → (t out : List ℕ) → Writing nowhere t w at out s out r
-    nowhere-writes e x t out = record { writes = tag-walks 0 unused w at h e (x out) }
+  pub nowhere-writes : {r : Walk} → getD w at 0 ≡ 0 → ((o : List ℕ) → Walks unused (λ x. []) silent w (at + 1) o s o r) → (t out : List ℕ) → Writing nowhere t w at out s out r
+  nowhere-writes e x t out = record { writes = tag-walks 0 unused w at h e (x out) }
 
 module _ {t w : List ℕ} {at : ℕ} {old : List ℕ} {s : Done} where
   module _ {new : List ℕ} where
-    pub offset-end : length w ≤ at → Writing (place Active) t w at old s new walks.No
-    offset-end h = record { writes = nothing-there (tag-end 0 span w at h) }
-
     module _ (h : at < length w) where
       pub offset-not : (getD w at 0 ≡ 0 → ⊥) → Writing (place Active) t w at old s new walks.No
       offset-not n = record { writes = nothing-there (tag-not 0 span w at h n) }

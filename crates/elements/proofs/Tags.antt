@@ -2,7 +2,7 @@
 use mathlib.Core.Path.{_≡_, refl, sym, subst}
 use mathlib.Core.Bool.{Bool, true, false, cond}
 use mathlib.Core.List.{List, [], _∷_}
-use Prim.Native.Nat.{ℕ, _+_, _<_, _≤_}
+use Prim.Native.Nat.{ℕ, _+_, _<_}
 use native.Mathlib.Omega.{arith}
 use lib.Dec.{eqb}
 use lib.ListN.{length, getD, drop, length-append}
@@ -11,7 +11,7 @@ use Rattle.format.specs.Parsed.{Parsed, fail, bind, map, map-same}
 use Rattle.format.specs.Format.{Format}
 use Rattle.format.specs.Basic.{tag, lit}
 use Rattle.format.specs.Count.{silent}
-use Rattle.format.specs.Read.{drop-more, drop-end}
+use Rattle.format.specs.Read.{drop-more}
 use Rattle.format.specs.Sequence.{Joins, leaves}
 use Rattle.format.specs.Walk.{Walked, Walks}
 use Rattle.format.specs.declared.Done.{Done}
@@ -23,9 +23,6 @@ pub stands : (k : ℕ) (w : List ℕ) (at : ℕ) → at < length w → getD w at
 stands k w at h e = rw (drop-more w at h, e)
 
 module _ {A : Type 0} (k : ℕ) (F : Format A) (w : List ℕ) (at : ℕ) where
-  pub tag-end : length w ≤ at → tag k F .parse (drop at w) ≡ fail
-  tag-end h = rw (drop-end w at h)
-
   module _ (h : at < length w) where
     pub tag-not : (getD w at 0 ≡ k → ⊥) → tag k F .parse (drop at w) ≡ fail
     tag-not n = rw (drop-more w at h, ne-eqb (getD w at 0) k n)

@@ -1,6 +1,6 @@
 -- Element segments as words and as bytes, by computation: each of the eight flags, and the exception. Assumes nothing.
 use mathlib.Core.Path.{_≡_, refl}
-use mathlib.Core.Bool.{Bool, true, false}
+use mathlib.Core.Bool.{true, false}
 use mathlib.Core.List.{List, [], _∷_}
 use Prim.Native.Nat.{ℕ}
 use Rattle.leb128.specs.Leb.{leb, lebBy}

@@ -2,13 +2,12 @@
 -- written without a table and is not of nullable unshared func has flag 6 and table 0, and comes back with table 0 given. Assumes nothing.
 use mathlib.Core.Path.{_≡_, refl, sym, ap, _∙_}
 use mathlib.Core.Logic.{_↔_}
-use mathlib.Core.Bool.{Bool, true, false, cond, true≢false}
+use mathlib.Core.Bool.{Bool, true, false}
 use mathlib.Core.Option.{some}
 use mathlib.Core.List.{List}
-use Prim.Native.Nat.{ℕ}
 use native.Mathlib.Omega.{arith}
 use lib.Dec.{eqb}
-use borrow.Author.Tests.{eqb-true, eq-eqb}
+use borrow.Author.Tests.{eqb-true}
 use Rattle.format.specs.Basic.{bit-small}
 use Rattle.types.specs.Words.{heapKind, heapShared, heapIndex, heap-kind-small, refTo, refOf, ref-of-to}
 use Rattle.types.specs.declared.HeapType.{HeapType}
@@ -17,7 +16,7 @@ use Rattle.types.specs.declared.RefType.{RefType}
 use Rattle.elements.specs.Mode.{PlaceOf}
 use Rattle.elements.specs.Members.{MembersOf, funcref}
 use Rattle.elements.specs.Segment.{ElementsOf, Segment}
-use Rattle.elements.specs.Item.{Flag, isTyped, BodyOf, Item}
+use Rattle.elements.specs.Item.{isTyped, Item}
 use Rattle.elements.specs.declared.Mode.{Mode}
 use Rattle.elements.specs.declared.Mode.the-variants.{Active, Passive, ActiveTable, Declared}
 

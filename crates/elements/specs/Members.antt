@@ -1,12 +1,10 @@
 -- What the elements of a segment are (document 01, Records, Element: kind, h, x, list of indices or of spans; Items to bytes, Element flag: for flags 1, 2, 3
 -- byte 00, for 5, 6, 7 the type; then the list). Assumes nothing.
-use mathlib.Core.Path.{_≡_, refl}
 use mathlib.Core.Bool.{Bool, true, false}
-use mathlib.Core.List.{List, []}
+use mathlib.Core.List.{List}
 use Prim.Native.Nat.{ℕ}
-use Rattle.format.specs.Format.{Format}
 use Rattle.format.specs.Lists.{many}
-use Rattle.format.specs.Agree.{agree-same, many-agree}
+use Rattle.format.specs.Agree.{many-agree}
 use Rattle.leb128.specs.Formats.{u32}
 use Rattle.texts.specs.Words.{word}
 use Rattle.texts.specs.Section.{Section, textless, tagged}

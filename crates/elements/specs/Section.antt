@@ -2,21 +2,20 @@
 use mathlib.Core.Path.{_≡_, refl, sym, ap, subst, _∙_}
 use mathlib.Core.Bool.{Bool, true, false}
 use mathlib.Core.List.{List, [], _∷_, _++_}
-use Prim.Native.Nat.{ℕ, suc, _+_, _≤_, _<_, _^_}
+use Prim.Native.Nat.{ℕ, _+_, _≤_}
 use native.Mathlib.Omega.{arith}
 use lib.ListN.{length, length-append}
-use Rattle.format.specs.Lists.{All, prints, many}
+use Rattle.format.specs.Lists.{All}
 use Rattle.texts.specs.Allowed.{Allowed}
 use Rattle.texts.specs.Judge.{textMost}
 use Rattle.texts.specs.Section as section
-use Rattle.texts.specs.Words.{word, span}
 use Rattle.texts.specs.declared.Span.{Span}
 use Rattle.types.specs.declared.RefType.{RefType}
-use Rattle.parts.specs.Both.{stood, second-stood, at-second}
-use Rattle.elements.specs.Mode.{modeWords, mode-ok, PlaceOf, place}
+use Rattle.parts.specs.Both.{second-stood, at-second}
+use Rattle.elements.specs.Mode.{modeWords, mode-ok, PlaceOf}
 use Rattle.elements.specs.Members.{MembersOf}
-use Rattle.elements.specs.Segment.{ElementsOf, Elements, Segment, elementsWordsOf, elementsWords, words}
-use Rattle.elements.specs.Item.{Flag, code, isTyped, BodyOf, Item, body, bytes}
+use Rattle.elements.specs.Segment.{ElementsOf, Segment, words}
+use Rattle.elements.specs.Item.{code, isTyped, Item, body, bytes}
 use Rattle.elements.specs.Exception.{isFuncref, activeItem, itemFrom, itemOf, recordFrom, recordOf, item-record}
 use Rattle.elements.specs.declared.Mode.{Mode}
 use Rattle.elements.specs.declared.Mode.the-variants.{Active, Passive, ActiveTable, Declared}

@@ -1,6 +1,6 @@
 -- What is written of a record, in the order of its words (document 01, Items to bytes, Element flag): the flag, the place, the type where it is said, the
 -- list. Assumes nothing.
-use mathlib.Core.Path.{_≡_, refl, sym, ap, _∙_}
+use mathlib.Core.Path.{_≡_, refl, sym}
 use mathlib.Core.Bool.{Bool, true, false, not}
 use mathlib.Core.List.{List, [], _∷_, _++_}
 use Prim.Native.Nat.{ℕ, min}
@@ -19,9 +19,9 @@ use Rattle.parts.specs.Listed.{textsOf, listed}
 use Rattle.parts.specs.Writing as writing
 use Rattle.elements.specs.Mode.{PlaceOf, place}
 use Rattle.elements.specs.Members.{funcref}
-use Rattle.elements.specs.Segment.{ElementsOf, Elements, Segment}
-use Rattle.elements.specs.Item.{flagOf, isTyped, body, bytes}
-use Rattle.elements.specs.Exception.{isFuncref, activeItem, itemFrom, itemOf}
+use Rattle.elements.specs.Segment.{ElementsOf, Elements}
+use Rattle.elements.specs.Item.{flagOf, body, bytes}
+use Rattle.elements.specs.Exception.{isFuncref, activeItem, itemOf}
 use Rattle.elements.specs.Section.{elementSection, resolved}
 use Rattle.elements.specs.declared.Mode.{Mode}
 use Rattle.elements.specs.declared.Mode.the-variants.{Active, Passive, ActiveTable, Declared}

@@ -122,10 +122,10 @@ table {A} n code l small full =
     })
 
 -- what it reads, by what is found
-pub table-read : {A : Type 0} (n : ℕ) (code : A → ℕ) (l : List A) (small : (a : A) → code a < n) (full : (a : A) → find code l (code a) ≡ some a) (x : ℕ) (s : List ℕ) (o : Option A) → find code l x ≡ o
+pub table-found : {A : Type 0} (n : ℕ) (code : A → ℕ) (l : List A) (small : (a : A) → code a < n) (full : (a : A) → find code l (code a) ≡ some a) (x : ℕ) (s : List ℕ) (o : Option A) → find code l x ≡ o
     → table n code l small full .parse (x ∷ s) ≡ fromOption o s
-table-read n code l small full x s (some a) e = let i : x ≡ code a = find-only code l x a e in rw (lt-ltb x n (omega (arith, small a)), e)
-table-read n code l small full x s none e = go (ltb x n) refl
+table-found n code l small full x s (some a) e = let i : x ≡ code a = find-only code l x a e in rw (lt-ltb x n (omega (arith, small a)), e)
+table-found n code l small full x s none e = go (ltb x n) refl
   where
     go : (c : Bool) → ltb x n ≡ c → table n code l small full .parse (x ∷ s) ≡ fail
     go true h = rw (h, e)

@@ -46,12 +46,9 @@ two (true, xs) = omega arith
 two (false, x) = omega arith
 
 module _ {w : List ℕ} {at : ℕ} {old : List ℕ} {s : Done} {new : List ℕ} (t : List ℕ) where
-  pub words-empty : length w ≤ at → Writing typeSection t w at old s new walks.No
-  words-empty h = record { writes = nothing-there (too-few (typeSection .words) 2 (omega arith) (λ g ok. two g) w at (omega arith)) }
-
   module _ (h : at < length w) where
-    pub one-left : length w - at < 2 → Writing typeSection t w at old s new walks.No
-    one-left l = record { writes = nothing-there (too-few (typeSection .words) 2 (omega arith) (λ g ok. two g) w at (omega arith)) }
+    pub flag-alone : length w - at < 2 → Writing typeSection t w at old s new walks.No
+    flag-alone l = record { writes = nothing-there (too-few (typeSection .words) 2 (omega arith) (λ g ok. two g) w at (omega arith)) }
 
     form-writes : (g : Bool) → getD w at 0 ≡ bit g → {r : Walk} → Writing (form g) t w (at + 1) old s new r → Writing typeSection t w at old s new r
     form-writes g e x = chosen-writing flag (λ g. tt) form groupBytes (λ x. (λ h. h, λ h. h)) (λ x. refl) g (one-read flag g (bit g) tt refl w at h e) x

@@ -1,7 +1,7 @@
 -- Entity types at a place, by the sort that stands there: words or bytes alike. Assumes nothing.
 use mathlib.Core.Path.{_≡_, refl, sym, ap, subst, _∙_}
 use mathlib.Core.List.{List, [], _∷_}
-use Prim.Native.Nat.{ℕ, _+_, _<_, _≤_}
+use Prim.Native.Nat.{ℕ, _+_, _<_}
 use native.Mathlib.Omega.{arith}
 use lib.ListN.{length, getD, drop}
 use mir.Syntax.{w8, w32}
@@ -11,7 +11,7 @@ use Rattle.format.specs.Format.{Format}
 use Rattle.format.specs.Count.{Appends, silent}
 use Rattle.format.specs.Read.{one-read, none-read}
 use Rattle.format.specs.Sequence.{dep-known}
-use Rattle.format.specs.Walk.{Walks, nothing-left, nothing-there, walks-as}
+use Rattle.format.specs.Walk.{Walks, nothing-there, walks-as}
 use Rattle.format.specs.declared.Done.{Done}
 use Rattle.format.specs.declared.Walk.{Walk}
 use Rattle.format.specs.declared.Walk.the-variants as walks
@@ -55,9 +55,6 @@ module _ (k : Sort) {w : List ℕ} {at : ℕ} {old : List ℕ} {s : Done} {cur :
 
 -- or none
 module _ {w : List ℕ} {at : ℕ} {old : List ℕ} {s : Done} {new : List ℕ} where
-  pub no-entity : length w ≤ at → Reading entity w at old s new walks.No
-  no-entity h = textless-reads entityWords entityBytes entity-agree (nothing-left h refl)
-
   module _ (h : at < length w) where
     pub large-sort : 0x20 < getD w at 0 → Walks entityWords (entityBytes .print) silent w at old s new walks.No
     large-sort l = entity-none typeWords typeBytes h (λ k e. omega (arith, sort-small k))

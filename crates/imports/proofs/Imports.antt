@@ -14,7 +14,7 @@ use Rattle.format.specs.Parsed.{Parsed, fail, got, bind, map}
 use Rattle.format.specs.Count.{Appends, silent, adds-seq}
 use Rattle.format.specs.Read.{drop-more, drop-end, drop-two, one-read, none-read}
 use Rattle.format.specs.Told.{one-at}
-use Rattle.format.specs.Walk.{nothing-left, nothing-there, not-found, Walks, walks-as}
+use Rattle.format.specs.Walk.{nothing-there, not-found, Walks, walks-as}
 use Rattle.format.specs.Write.{fits-or}
 use Rattle.format.specs.declared.Done.{Done}
 use Rattle.format.specs.declared.Walk.{Walk}
@@ -78,9 +78,6 @@ form-writes f {w = w} {at} h e x g y =
     (part-follows name (rest f) x g y)
 
 module _ {t w : List ℕ} {at : ℕ} {old : List ℕ} {s : Done} {new : List ℕ} where
-  pub words-empty : length w ≤ at → Writing importSection t w at old s new walks.No
-  words-empty h = record { writes = nothing-left h refl }
-
   module _ (h : at < length w) where
     pub no-form : (getD w at 0 ≡ 0 → ⊥) → (getD w at 0 ≡ 1 → ⊥) → (getD w at 0 ≡ 2 → ⊥) → Writing importSection t w at old s new walks.No
     no-form i j k = record { writes = nothing-there (rw (none-read formWord formOf (λ f. refl) w at h (elim [ Single ↦ i | Compact1 ↦ j | Compact2 ↦ k ]))) }

@@ -1,7 +1,7 @@
 -- What the walks over a member, and over a list of members, are by the kind of member: a name, and where members are imports its entity. Assumes nothing.
 use mathlib.Core.Path.{_≡_, refl, sym, subst, _∙_}
 use mathlib.Core.List.{List, [], _∷_}
-use Prim.Native.Nat.{ℕ, _+_, _-_, _<_, _≤_}
+use Prim.Native.Nat.{ℕ, _+_, _-_, _<_}
 use native.Mathlib.Omega.{arith}
 use lib.IntN.{pos}
 use lib.ListN.{length, getD, drop, length-append}
@@ -72,17 +72,13 @@ module _ (m : Member) where
 
   -- ---- writing
 
-  module _ {t w : List ℕ} {at : ℕ} {old : List ℕ} {s : Done} {new : List ℕ} where
-    pub list-not-there : length w ≤ at → Writing (listed (member m)) t w at old s new walks.No
-    list-not-there h = lists.list-not-there (member m) (words-long m) h
+  module _ {t w : List ℕ} {at : ℕ} {old : List ℕ} {s : Done} {new : List ℕ} (h : at < length w) where
+    pub list-larger : length w - at - 1 < getD w at 0 → AreWords w → Writing (listed (member m)) t w at old s new walks.No
+    list-larger l k = lists.list-larger (member m) (words-long m) h l k
 
-    module _ (h : at < length w) where
-      pub list-larger : length w - at - 1 < getD w at 0 → AreWords w → Writing (listed (member m)) t w at old s new walks.No
-      list-larger l k = lists.list-larger (member m) (words-long m) h l k
-
-      pub list-writes : {cur : List ℕ} {u : Done} {r : Walk} → Appends (uleb (getD w at 0)) old s cur u → MembersWritten (member m) t w (at + 1) (getD w at 0) cur u new r → AreWords w
-          → Writing (listed (member m)) t w at old s new r
-      list-writes a k i = lists.list-writes (member m) (words-long m) h a k i
+    pub list-writes : {cur : List ℕ} {u : Done} {r : Walk} → Appends (uleb (getD w at 0)) old s cur u → MembersWritten (member m) t w (at + 1) (getD w at 0) cur u new r → AreWords w
+        → Writing (listed (member m)) t w at old s new r
+    list-writes a k i = lists.list-writes (member m) (words-long m) h a k i
 
   -- one more member: its name was walked, and then where members are imports its entity
   module _ {t w : List ℕ} {q n : ℕ} {old : List ℕ} {s₀ : Done} {out : List ℕ} {s : Done} {p left : ℕ} (I : WritingOn (member m) t w q n old s₀ out s p left) (l : 0 < left) where

@@ -1,7 +1,7 @@
 -- Imports as bytes (document 01, Items to bytes, Import; imports.rs for the compact forms): the module's name, and then a name and an entity, or 00 7F and a
 -- list, or 00 7E, an entity and names. An empty name is 00 too; the byte after it tells the forms apart, since no entity has the sort 7F or 7E. Assumes
 -- nothing.
-use mathlib.Core.Path.{_≡_, refl, sym, ap, _∙_}
+use mathlib.Core.Path.{_≡_, refl, ap, _∙_}
 use mathlib.Core.Logic.{⊎-elim}
 use mathlib.Core.Bool.{cond}
 use mathlib.Core.List.{List, [], _∷_, _++_, append-assoc}
@@ -11,15 +11,15 @@ use lib.Dec.{eqb}
 use lib.IntN.{pos}
 use lib.Signed.{mag, shrZ}
 use lib.ListN.{length}
-use borrow.Author.Tests.{ne-eqb, eqb-true}
+use borrow.Author.Tests.{ne-eqb}
 use Rattle.format.specs.Format.{Format}
 use Rattle.format.specs.Combine.{pair, iso}
 use Rattle.format.specs.Told.{one}
 use Rattle.format.specs.Write.{fits-or}
 use Rattle.leb128.specs.Leb.{uleb, unsigned, limit, low, leb, lebBy}
 use Rattle.leb128.specs.LebLaws.{leb-last, leb-more}
-use Rattle.parts.specs.Text.{name, nameBytes}
-use Rattle.imports.specs.Entity.{Sort, sortOf, sort-small, entityTo, entityBytes, typeBytes}
+use Rattle.parts.specs.Text.{nameBytes}
+use Rattle.imports.specs.Entity.{Sort, sortOf, sort-small, entityTo, entityBytes}
 use Rattle.imports.specs.Forms.{Rest, rest, Imports}
 use Rattle.imports.specs.declared.Form.{Form}
 use Rattle.imports.specs.declared.Form.the-variants.{Single, Compact1, Compact2}

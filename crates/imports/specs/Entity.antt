@@ -1,8 +1,6 @@
 -- Entity types (document 01, Records, Import; Items to bytes, Import: an entity begins with its sort byte; Core Specification 3.0, Binary Format, Modules,
 -- Import Section; sort 20, an exact function, from imports.rs): words and bytes over one abstract syntax. Assumes nothing.
 use mathlib.Core.Path.{_≡_, refl}
-use mathlib.Core.Logic.{_↔_}
-use mathlib.Core.Bool.{Bool}
 use mathlib.Core.Option.{some}
 use mathlib.Core.List.{List, [], _∷_}
 use Prim.Native.Nat.{ℕ, _<_}
@@ -11,7 +9,6 @@ use Rattle.format.specs.Format.{Format}
 use Rattle.format.specs.Basic.{find, table}
 use Rattle.format.specs.Combine.{dep, iso}
 use Rattle.format.specs.Agree.{Agree}
-use Rattle.format.specs.Alternatives.{Heads}
 use Rattle.leb128.specs.Formats.{u32}
 use Rattle.texts.specs.Words.{word}
 use Rattle.texts.specs.Section.{Section, textless}

@@ -17,7 +17,6 @@ use Rattle.texts.specs.Entry.{Below, many-words, no-record, words-left, Measure
 use Rattle.items.specs.Record.{words, textsOf, itemOf, lowOf, records}
 use Rattle.items.specs.Judging.{refused-is, length-is, Tried, Puts, Judges}
 use Rattle.items.specs.Start.{Starts}
-use Rattle.items.specs.declared.Judged.{Judged}
 use Rattle.items.specs.declared.Judged.the-variants.{Refused, Length}
 
 pub many-refused : {w t old : List ℕ} → wordsMost < length w → Judges w t old old (Refused 2)

@@ -3,7 +3,7 @@ use mathlib.Core.Path.{_≡_, sym, ap, _∙_}
 use mathlib.Core.Logic.{_↔_, inl, inr, ⊎-elim}
 use mathlib.Core.Bool.{Bool, true}
 use mathlib.Core.Option.{some}
-use mathlib.Core.List.{List, _∷_}
+use mathlib.Core.List.{List}
 use Prim.Native.Nat.{ℕ, _≤_, _<_}
 use native.Mathlib.Omega.{arith}
 use lib.ListN.{getD}
@@ -18,7 +18,7 @@ use Rattle.texts.specs.Entry.{Below}
 use Rattle.texts.specs.Plain.{Names, plain-only}
 use Rattle.texts.specs.declared.Span.{Span}
 use Rattle.imports.specs.Names.{import-names}
-use Rattle.items.specs.Record.{Record, section, words, textsOf, records}
+use Rattle.items.specs.Record.{Record, words, textsOf, records}
 
 -- r: of the record that the words are, its texts draw what is below r, or nothing
 pub record Starts (w t : List ℕ) (r : ℕ) : Type 0 where

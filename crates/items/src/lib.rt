@@ -7,7 +7,6 @@ use format::copy;
 use format::count;
 use format::low;
 use plain::is_plain;
-ghost use mathlib.Core.Path.{_≡_};
 ghost use Prim.Native.Nat.{_≤_};
 ghost use lib.ListN.{length};
 ghost use Rattle.format.specs.Count.{silent};
@@ -17,11 +16,13 @@ ghost use Rattle.items.specs.Record.{words as wordsOf, itemOf, lowOf, be
 ghost use Rattle.items.specs.Judging.{Judges, Tried, Puts};
 ghost use Rattle.items.specs.Start.{Starts};
 
-// Document 01, Records, and 6 of its answers.
+// Document 01, Records: of words.
 const WORDS_MOST: usize = 4096;
 
+// Of its text.
 const TEXT_MOST: usize = 65536;
 
+// Answers by number, 6.
 const ITEM_MOST: usize = 65536;
 
 // Reads a record's words and appends its item.

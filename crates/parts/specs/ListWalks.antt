@@ -1,12 +1,11 @@
 -- Walks over lists of parts: the loop over the members, and a list behind its count, read and written. Assumes nothing.
 use mathlib.Core.Path.{_≡_, refl, sym, ap, _∙_}
 use mathlib.Core.List.{List, [], _∷_, _++_}
-use Prim.Native.Nat.{ℕ, _+_, _-_, _<_, _≤_, min}
+use Prim.Native.Nat.{ℕ, _+_, _-_, _<_, min}
 use lib.ListN.{length, getD, drop}
 use Rattle.format.specs.Lists.{prints}
 use Rattle.format.specs.Read.{reading}
 use Rattle.format.specs.Count.{Appends, noRefusal, silent}
-use Rattle.format.specs.Walk.{nothing-left}
 use Rattle.format.specs.Loop.{Going, MembersAt, printsAt, printsAt-plain, leastOf, loop-stops, loop-goes-on}
 use Rattle.format.specs.Counted.{CountedList, least-silent}
 use Rattle.format.specs.declared.Done.{Done}
@@ -107,14 +106,10 @@ module _ {A B : Type 0} (S : Section A B) where
       }
 
   -- each member takes a word at least
-  module _ (long : (a : A) → S .words .Ok a → 0 < length (S .words .print a)) {t w : List ℕ} {at : ℕ} {old : List ℕ} {s : Done} {new : List ℕ} where
-    pub list-not-there : length w ≤ at → Writing (listed S) t w at old s new walks.No
-    list-not-there h = record { writes = nothing-left h refl }
+  module _ (long : (a : A) → S .words .Ok a → 0 < length (S .words .print a)) {t w : List ℕ} {at : ℕ} {old : List ℕ} {s : Done} {new : List ℕ} (h : at < length w) where
+    pub list-larger : length w - at - 1 < getD w at 0 → AreWords w → Writing (listed S) t w at old s new walks.No
+    list-larger l k = record { writes = more-than-words (list-written long t) h l k }
 
-    module _ (h : at < length w) where
-      pub list-larger : length w - at - 1 < getD w at 0 → AreWords w → Writing (listed S) t w at old s new walks.No
-      list-larger l k = record { writes = more-than-words (list-written long t) h l k }
-
-      pub list-writes : {cur : List ℕ} {u : Done} {r : Walk} → Appends (uleb (getD w at 0)) old s cur u → MembersWritten t w (at + 1) (getD w at 0) cur u new r → AreWords w
-          → Writing (listed S) t w at old s new r
-      list-writes a m k = record { writes = members-behind (list-written long t) h a m k }
+    pub list-writes : {cur : List ℕ} {u : Done} {r : Walk} → Appends (uleb (getD w at 0)) old s cur u → MembersWritten t w (at + 1) (getD w at 0) cur u new r → AreWords w
+        → Writing (listed S) t w at old s new r
+    list-writes a m k = record { writes = members-behind (list-written long t) h a m k }

@@ -10,7 +10,7 @@ use lib.ListN.{length, getD, drop}
 use borrow.Author.Tests.{ne-eqb}
 use Rattle.format.specs.Parsed.{Parsed, fail, got, map, map-map, fromOption}
 use Rattle.format.specs.Format.{Format}
-use Rattle.format.specs.Basic.{find, table-read}
+use Rattle.format.specs.Basic.{find, table-found}
 use Rattle.format.specs.Read.{drop-more, drop-end, placeOf, place-at, rest-at, reading}
 use Rattle.format.specs.Count.{Appends, silent}
 use Rattle.format.specs.Walk.{Walks, nothing-there, value-there}
@@ -94,7 +94,7 @@ module _ (b : Bool) (w : List ℕ) (at p : ℕ) (e : map absOf (absBytes .parse 
 
   module _ (h : p < length w) (f : AbstractRead) (d : f ≡ kindAns (find byteOf abstracts (getD w p 0))) where
     byte-read : (o : Option AbstractHeapType) → find byteOf abstracts (getD w p 0) ≡ o → abstractByte .parse (drop p w) ≡ fromOption o (drop (p + 1) w)
-    byte-read o i = rw (drop-more w p h) (table-read 256 byteOf abstracts byte-small byte-full (getD w p 0) (drop (p + 1) w) o i)
+    byte-read o i = rw (drop-more w p h) (table-found 256 byteOf abstracts byte-small byte-full (getD w p 0) (drop (p + 1) w) o i)
 
     pub abs-none : f ≡ kinds.No → No ≡ heapAt w (map absOf (absBytes .parse (drop at w)))
     abs-none q = rw (e, byte-read none (kind-none (find byteOf abstracts (getD w p 0)) (sym d ∙ q)))

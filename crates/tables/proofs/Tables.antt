@@ -13,7 +13,7 @@ use Rattle.format.specs.Read.{reading, drop-more, drop-end, drop-two, one-read,
 use Rattle.format.specs.Sequence.{Joins, joins, second-follows}
 use Rattle.format.specs.Dispatch.{Renames}
 use Rattle.format.specs.Told.{one-at}
-use Rattle.format.specs.Walk.{Walks, nothing-there, nothing-left, value-there, not-found, gone}
+use Rattle.format.specs.Walk.{Walks, nothing-there, value-there, not-found, gone}
 use Rattle.format.specs.declared.Done.{Done}
 use Rattle.format.specs.declared.Walk.{Walk}
 use Rattle.format.specs.declared.Walk.the-variants as walks
@@ -96,9 +96,6 @@ module _ {w : List ℕ} {at : ℕ} (h : at < length w) where
 -- ---- words of a table
 
 module _ {t w : List ℕ} {at : ℕ} {old : List ℕ} {s : Done} {new : List ℕ} where
-  pub words-empty : length w ≤ at → Writing tableSection t w at old s new walks.No
-  words-empty h = record { writes = nothing-left h refl }
-
   form-word : (i : Bool) → at < length w → getD w at 0 ≡ bit i → {r : Walk} → Writing (form i) t w (at + 1) old s new r → Writing tableSection t w at old s new r
   form-word i h e x = chosen-writing flag (λ i. tt) form bytes (λ x. (λ h. h, λ h. h)) (λ x. refl) i (one-read flag i (bit i) tt refl w at h e) x
 
@@ -127,9 +124,6 @@ module _ {t w : List ℕ} {at : ℕ} {old : List ℕ} {s : Done} {new : List ℕ
 -- ---- bytes of a table
 
 module _ {b : List ℕ} {at : ℕ} {old : List ℕ} {s : Done} {new : List ℕ} where
-  pub bytes-empty : length b ≤ at → Reading tableSection b at old s new walks.No
-  bytes-empty k = record { reads = λ h. nothing-left k refl }
-
   form-reads : (i : Bool) → hasInit (drop at b) ≡ i → {cur : List ℕ} {u : Done} {r : Walk} → Appends (bit i ∷ []) old s cur u → Reading (form i) b at cur u new r
       → Reading tableSection b at old s new r
   form-reads i e a x = chosen-reading flag (λ i. tt) form bytes (λ x. (λ h. h, λ h. h)) (λ x. refl) i (one-at hasInit (λ i. form i .bytes) i (drop at b) e) a x

@@ -2,13 +2,10 @@
 -- Reading). What is told here of a section is all that reading and adding have to know. Assumes nothing.
 use mathlib.Core.Path.{_≡_, refl, ap}
 use mathlib.Core.Logic.{_↔_}
-use mathlib.Core.Bool.{cond}
 use mathlib.Core.List.{List, [], _++_}
 use Prim.Native.Nat.{ℕ, suc, _≤_}
 use lib.Dec.{leb}
 use lib.ListN.{length}
-use borrow.Author.Tests.{le-leb}
-use Rattle.format.specs.Parsed.{Parsed, fail, got, bind}
 use Rattle.format.specs.Format.{Format}
 use Rattle.format.specs.Lists.{All}
 use Rattle.format.specs.Agree.{Agree}
@@ -69,9 +66,6 @@ tagged k S =
     }
 
 module _ {A B : Type 0} (S : Section A B) where
-  abbrev pub recordsOf : Records A
-  recordsOf = record { words = S .words; texts = S .texts; item = λ t a. S .bytes .print (S .resolve t a) }
-
   -- the words that reading writes of an item at the front of the bytes
   abbrev pub readWords : B → List ℕ
   readWords x = S .words .print (S .locate 0 x)
@@ -80,13 +74,6 @@ module _ {A B : Type 0} (S : Section A B) where
   abbrev pub readable : Format B
   readable = guard (S .bytes) (λ x. leb (length (readWords x)) wordsMost)
 
-  pub all-readable : ((x : B) → length (readWords x) ≤ wordsMost) → (s : List ℕ) → readable .parse s ≡ S .bytes .parse s
-  all-readable few s = go (S .bytes .parse s)
-    where
-      go : (m : Parsed B) → bind m (λ x r. cond (leb (length (readWords x)) wordsMost) (got x r) fail) ≡ m
-      go fail = refl
-      go (got x r) = rw (le-leb (length (readWords x)) wordsMost (few x))
-
 -- its records are some of R's: those that `into` gives
 pub record Among {A B C : Type 0} (S : Section A B) (R : Records C) : Type 0 where
   pub into : A → C
@@ -94,6 +81,3 @@ pub record Among {A B C : Type 0} (S : Section A B) (R : Records C) : Type 0 whe
   pub prints : (a : A) → R .words .print (into a) ≡ S .words .print a
   pub texts : (a : A) → R .texts (into a) ≡ S .texts a
   pub item : (t : List ℕ) (a : A) → R .item t (into a) ≡ S .bytes .print (S .resolve t a)
-
-abbrev pub alone : {A B : Type 0} (S : Section A B) → Among S (recordsOf S)
-alone S = record { into = λ a. a; ok = λ a. (λ h. h, λ h. h); prints = λ a. refl; texts = λ a. refl; item = λ t a. refl }

@@ -10,7 +10,6 @@ use Rattle.format.specs.Count.{Appends, silent}
 use Rattle.format.specs.Read.{drop-two, too-few}
 use Rattle.format.specs.Walk.{Walks, nothing-there, value-there}
 use Rattle.format.specs.declared.Done.{Done}
-use Rattle.format.specs.declared.Walk.{Walk}
 use Rattle.format.specs.declared.Walk.the-variants as walks
 use Rattle.types.specs.Vals.{unused}
 

@@ -8,7 +8,7 @@ use lib.ListN.{length, getD, drop}
 use borrow.Author.Tests.{lt-ltb, le-ltb, ne-eqb}
 use Rattle.format.specs.Parsed.{got, map, map-map}
 use Rattle.format.specs.Format.{Format}
-use Rattle.format.specs.Basic.{find, find-only, find-none, flag, table-read}
+use Rattle.format.specs.Basic.{find, find-only, find-none, flag, table-found}
 use Rattle.format.specs.Count.{Appends, silent, adds-nil, adds-eq}
 use Rattle.format.specs.Read.{drop-more}
 use Rattle.format.specs.Sequence.{dep-known}
@@ -91,7 +91,7 @@ module _ {w : List ℕ} {at : ℕ} {old : List ℕ} {s : Done} {new : List ℕ} 
       pub no-num-byte : k ≡ 5 → Walks valBytes (valWords .print) silent w at old s new walks.No
       no-num-byte q =
           let m = code-missing numKind numByte nums 5 (getD w at 0) k (not-packed (getD w at 0) k l e) (elim [ i32 ↦ λ e. omega arith | i64 ↦ λ e. omega arith | f32 ↦ λ e. omega arith | f64 ↦ λ e. omega arith | v128 ↦ λ e. omega arith ]) q in
-          nothing-there (rw (drop-more w at h, le-ltb (getD w at 0) 0x7B l, table-read 256 numByte nums num-byte-small num-byte-full (getD w at 0) (drop (at + 1) w) none m))
+          nothing-there (rw (drop-more w at h, le-ltb (getD w at 0) 0x7B l, table-found 256 numByte nums num-byte-small num-byte-full (getD w at 0) (drop (at + 1) w) none m))
 
       pub num-there : {u : Done} → (k ≡ 5 → ⊥) → Appends (k ∷ 0 ∷ 0 ∷ []) old s new u → Walks valBytes (valWords .print) silent w at old s new (walks.Got (at + 1) u)
       num-there n a =

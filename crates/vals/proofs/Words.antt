@@ -8,7 +8,7 @@ use native.Mathlib.Omega.{arith}
 use lib.ListN.{length, getD, drop}
 use borrow.Author.Tests.{ne-eqb}
 use Rattle.format.specs.Parsed.{Parsed, fail, got, map, map-map, bind}
-use Rattle.format.specs.Basic.{find, find-only, find-none, table-read}
+use Rattle.format.specs.Basic.{find, find-only, find-none, table-found}
 use Rattle.format.specs.Count.{silent, adds-nil}
 use Rattle.format.specs.Read.{drop-more}
 use Rattle.format.specs.Dispatch.{Opens, opened-bare}
@@ -78,7 +78,7 @@ module _ {w : List ℕ} {at : ℕ} {old : List ℕ} {s : Done} {new : List ℕ} 
     pub no-num : (getD w at 0 ≡ 5 → ⊥) → b ≡ 0 → Walks valWords (valBytes .print) silent w at old s new walks.No
     no-num n q =
         let m = code-missing numByte numKind nums 0 (getD w at 0) b e (elim [ i32 ↦ λ e. omega arith | i64 ↦ λ e. omega arith | f32 ↦ λ e. omega arith | f64 ↦ λ e. omega arith | v128 ↦ λ e. omega arith ]) q in
-        nothing-there (rw (drop-more w at h, ne-eqb (getD w at 0) 5 n, table-read 256 numKind nums num-kind-small num-kind-full (getD w at 0) (drop (at + 1) w) none m))
+        nothing-there (rw (drop-more w at h, ne-eqb (getD w at 0) 5 n, table-found 256 numKind nums num-kind-small num-kind-full (getD w at 0) (drop (at + 1) w) none m))
 
     pub num-walks : {r : Walk} → (b ≡ 0 → ⊥) → Walks unused (λ u. b ∷ []) silent w (at + 1) old s new r → Walks valWords (valBytes .print) silent w at old s new r
     num-walks n k =

@@ -1,9 +1,9 @@
 -- `thriftbell::put_words` meets its contract. Assumes nothing.
-use mathlib.Core.Path.{_≡_, ap, subst, _∙_}
+use mathlib.Core.Path.{_≡_, subst, _∙_}
 use mathlib.Core.List.{List}
-use Prim.Native.Nat.{ℕ, _-_, _≤_}
+use Prim.Native.Nat.{ℕ, _-_}
 use native.Mathlib.Omega.{arith}
-use lib.ListN.{length, take, drop}
+use lib.ListN.{take, drop}
 use denote.Ref.{now}
 use Rattle.format.specs.Write.{wrote, writes-as}
 use Rattle.format.specs.Count.{Appends, silent, adds-fresh}

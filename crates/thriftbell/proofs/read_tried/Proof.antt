@@ -2,12 +2,12 @@
 use mathlib.Core.Path.{_≡_, sym, ap, _∙_}
 use mathlib.Core.List.{List}
 use mathlib.Core.Option.{some}
-use Prim.Native.Nat.{ℕ, _≤_, _<_}
+use Prim.Native.Nat.{ℕ, _≤_}
 use native.Mathlib.Omega.{arith}
 use lib.ListN.{length, take, drop}
 use lib.Seq.{take-all, take-at}
 use denote.Ref.{now}
-use Rattle.format.specs.Count.{silent, Has, has-count, adds-fresh}
+use Rattle.format.specs.Count.{Has, has-count, adds-fresh}
 use Rattle.format.specs.Parsed.{got}
 use Rattle.format.specs.Read.{placeOf}
 use Rattle.format.specs.Walk.{not-found, was-found}

@@ -3,7 +3,7 @@ use Rattle.texts.specs.Words.{word}
 use Rattle.parts.specs.Text.{expression, content}
 use Rattle.parts.specs.Both.{both}
 use Rattle.parts.specs.Reading.{part-missing, part-follows, textless-missing, follows-textless}
-use Rattle.data.specs.Segment.{memoryBytes, memory-agree}
+use Rattle.data.specs.Segment.{memoryIndexBytes, index-agree}
 use borrow.Author.Needs.{needs}
 use Rattle.data.proofs.reader.read_active.Statement.{statement}
 use Rattle.data.proofs.reader.read_active.Tie as tie
@@ -16,12 +16,12 @@ read-active-spec =
     (λ c. search needs)
     (λ c. search needs)
     (λ c. search needs)
-    (λ c. search (textless-missing word memoryBytes memory-agree (both expression content)))
+    (λ c. search (textless-missing word memoryIndexBytes index-agree (both expression content)))
     (λ c κs. search needs)
     (λ c. search needs)
     (λ c. search needs)
     (λ c. search needs)
-    (λ c. search (follows-textless word memoryBytes memory-agree (both expression content), part-missing expression content))
+    (λ c. search (follows-textless word memoryIndexBytes index-agree (both expression content), part-missing expression content))
     (λ c κs. search needs)
     (λ c. search needs)
-    (λ c. search (follows-textless word memoryBytes memory-agree (both expression content), part-follows expression content)))
+    (λ c. search (follows-textless word memoryIndexBytes index-agree (both expression content), part-follows expression content)))

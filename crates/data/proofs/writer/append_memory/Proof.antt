@@ -1,5 +1,5 @@
 -- `data::writer::append_memory` meets its contract: memory 0, or another. Assumes nothing.
-use Rattle.data.proofs.Segments.{zero-added, other-added}
+use Rattle.data.proofs.Segments.{first-memory-added, other-memory-added}
 use borrow.Author.Needs.{needs}
 use Rattle.data.proofs.writer.append_memory.Statement.{statement}
 use Rattle.data.proofs.writer.append_memory.Tie as tie
@@ -10,8 +10,8 @@ append-memory-spec =
     (tie.spec
     (λ c κs. search needs)
     (λ c. search needs)
-    (λ c. search zero-added)
+    (λ c. search first-memory-added)
     (λ c κs. search needs)
     (λ c κs. search needs)
     (λ c. search needs)
-    (λ c. search other-added))
+    (λ c. search other-memory-added))

@@ -1,7 +1,8 @@
 -- `elements::writer::walk_exprs` meets its contract: the count, and then so many expressions. Assumes nothing.
+use Rattle.format.specs.Walk.{nothing-left}
 use Rattle.parts.specs.Text.{expression}
 use Rattle.texts.specs.WordWalks.{word-fits}
-use Rattle.parts.specs.ListWalks.{list-not-there, list-larger, list-writes}
+use Rattle.parts.specs.ListWalks.{list-larger, list-writes}
 use Rattle.elements.proofs.Lists.{word-each}
 use borrow.Author.Needs.{needs}
 use Rattle.elements.proofs.writer.walk_exprs.Statement.{statement}
@@ -11,7 +12,7 @@ pub walk-exprs-spec : {M : Type 1} → statement M
 walk-exprs-spec =
     tie.close
     (tie.spec
-    (λ c. search (list-not-there expression word-each))
+    (λ c. search nothing-left)
     (λ c. search needs)
     (λ c. search needs)
     (λ c. search needs)

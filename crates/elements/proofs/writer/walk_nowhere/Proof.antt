@@ -1,5 +1,6 @@
 -- `elements::writer::walk_nowhere` meets its contract: an unused word, and two. Assumes nothing.
-use Rattle.elements.proofs.Places.{nowhere-end, nowhere-not, nowhere-writes}
+use Rattle.format.specs.Walk.{nothing-left}
+use Rattle.elements.proofs.Places.{nowhere-not, nowhere-writes}
 use borrow.Author.Needs.{needs}
 use Rattle.elements.proofs.writer.walk_nowhere.Statement.{statement}
 use Rattle.elements.proofs.writer.walk_nowhere.Tie as tie
@@ -8,7 +9,7 @@ pub walk-nowhere-spec : {M : Type 1} → statement M
 walk-nowhere-spec =
     tie.close
     (tie.spec
-    (λ c. search nowhere-end)
+    (λ c. search nothing-left)
     (λ c. search needs)
     (λ c. search needs)
     (λ c. search nowhere-not)

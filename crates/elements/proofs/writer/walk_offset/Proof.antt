@@ -1,5 +1,6 @@
 -- `elements::writer::walk_offset` meets its contract: an unused word, and the offset. Assumes nothing.
-use Rattle.elements.proofs.Places.{offset-end, offset-not, offset-writes}
+use Rattle.format.specs.Walk.{nothing-left}
+use Rattle.elements.proofs.Places.{offset-not, offset-writes}
 use borrow.Author.Needs.{needs}
 use Rattle.elements.proofs.writer.walk_offset.Statement.{statement}
 use Rattle.elements.proofs.writer.walk_offset.Tie as tie
@@ -8,7 +9,7 @@ pub walk-offset-spec : {M : Type 1} → statement M
 walk-offset-spec =
     tie.close
     (tie.spec
-    (λ c. search offset-end)
+    (λ c. search nothing-left)
     (λ c. search needs)
     (λ c. search needs)
     (λ c. search offset-not)

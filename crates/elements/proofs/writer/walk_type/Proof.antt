@@ -1,5 +1,10 @@
 -- `elements::writer::walk_type` meets its contract: the reference type, which is written where it is said. Assumes nothing.
-use Rattle.elements.proofs.Elements.{type-said, type-end, type-short, type-there, type-none}
+use native.Mathlib.Omega.{arith}
+use Rattle.format.specs.Walk.{nothing-left}
+use Rattle.types.specs.Words.{refWords}
+use Rattle.types.specs.TwoWords.{one-left}
+use Rattle.refs.proofs.Words.{ref-words-missing}
+use Rattle.elements.proofs.Elements.{type-said, type-unsaid}
 use borrow.Author.Needs.{needs}
 use Rattle.elements.proofs.writer.walk_type.Statement.{statement}
 use Rattle.elements.proofs.writer.walk_type.Tie as tie
@@ -11,9 +16,9 @@ walk-type-spec =
     (λ c κs. search needs)
     (λ c. search needs)
     (λ c. search type-said)
-    (λ c. search type-end)
+    (λ c. search nothing-left)
     (λ c. search needs)
-    (λ c. search type-short)
+    (λ c. search (one-left refWords (λ r ok. omega arith)))
     (λ c. search needs)
     (λ c. search needs)
     (λ c. search needs)
@@ -23,5 +28,5 @@ walk-type-spec =
     (λ c. search needs)
     (λ c. search needs)
     (λ c. search needs)
-    (λ c. search type-there)
-    (λ c. search type-none))
+    (λ c. search type-unsaid)
+    (λ c. search ref-words-missing))

@@ -1,6 +1,7 @@
 -- `groups::writer::walk_many` meets its contract: the count, and then so many subtypes. Assumes nothing.
+use Rattle.format.specs.Walk.{nothing-left}
 use Rattle.texts.specs.WordWalks.{word-fits}
-use Rattle.parts.specs.ListWalks.{list-not-there, list-larger, list-writes}
+use Rattle.parts.specs.ListWalks.{list-larger, list-writes}
 use Rattle.groups.specs.RecGroup.{subType, sub-words-long}
 use borrow.Author.Needs.{needs}
 use Rattle.groups.proofs.writer.walk_many.Statement.{statement}
@@ -10,7 +11,7 @@ pub walk-many-spec : {M : Type 1} → statement M
 walk-many-spec =
     tie.close
     (tie.spec
-    (λ c t. search (list-not-there subType sub-words-long))
+    (λ c t. search nothing-left)
     (λ c. search needs)
     (λ c. search needs)
     (λ c. search needs)

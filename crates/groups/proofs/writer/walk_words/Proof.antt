@@ -1,5 +1,6 @@
 -- `groups::writer::walk_words` meets its contract: by the group flag. Assumes nothing.
-use Rattle.groups.proofs.Groups.{words-empty, one-left, group-writes, no-flag, single-count, single-writes}
+use Rattle.format.specs.Walk.{nothing-left}
+use Rattle.groups.proofs.Groups.{flag-alone, group-writes, no-flag, single-count, single-writes}
 use borrow.Author.Needs.{needs}
 use Rattle.groups.proofs.writer.walk_words.Statement.{statement}
 use Rattle.groups.proofs.writer.walk_words.Tie as tie
@@ -8,9 +9,9 @@ pub walk-words-spec : {M : Type 1} → statement M
 walk-words-spec =
     tie.close
     (tie.spec
-    (λ c t. search words-empty)
+    (λ c t. search nothing-left)
     (λ c. search needs)
-    (λ c t. search one-left)
+    (λ c t. search flag-alone)
     (λ c. search needs)
     (λ c. search needs)
     (λ c κs. search needs)

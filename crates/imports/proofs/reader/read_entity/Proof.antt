@@ -1,6 +1,7 @@
 -- `imports::reader::read_entity` meets its contract: each sort by its own walk. Assumes nothing.
+use Rattle.format.specs.Walk.{nothing-left}
 use Rattle.imports.specs.Entity.{function, ofTable, ofMemory, ofGlobal, ofTag, exact}
-use Rattle.imports.proofs.Entities.{byte-fits, no-entity, sort-reads, no-sort-reads}
+use Rattle.imports.proofs.Entities.{byte-fits, sort-reads, no-sort-reads}
 use borrow.Author.Needs.{needs}
 use Rattle.imports.proofs.reader.read_entity.Statement.{statement}
 use Rattle.imports.proofs.reader.read_entity.Tie as tie
@@ -9,7 +10,7 @@ pub read-entity-spec : {M : Type 1} → statement M
 read-entity-spec =
     tie.close
     (tie.spec
-    (λ c. search no-entity)
+    (λ c. search nothing-left)
     (λ c. search needs)
     (λ c. search byte-fits)
     (λ c κs. search needs)

@@ -1,6 +1,7 @@
 -- `imports::writer::walk_list` meets its contract: the count, and then so many members. Assumes nothing.
+use Rattle.format.specs.Walk.{nothing-left}
 use Rattle.texts.specs.WordWalks.{word-fits}
-use Rattle.imports.proofs.Members.{list-not-there, list-larger, list-writes}
+use Rattle.imports.proofs.Members.{list-larger, list-writes}
 use borrow.Author.Needs.{needs}
 use Rattle.imports.proofs.writer.walk_list.Statement.{statement}
 use Rattle.imports.proofs.writer.walk_list.Tie as tie
@@ -9,7 +10,7 @@ pub walk-list-spec : {M : Type 1} → statement M
 walk-list-spec =
     tie.close
     (tie.spec
-    (λ c. search list-not-there)
+    (λ c. search nothing-left)
     (λ c. search needs)
     (λ c. search needs)
     (λ c. search needs)

@@ -1,5 +1,6 @@
 -- `tables::reader::walk_bytes` meets its contract: by the first bytes. Assumes nothing.
-use Rattle.tables.proofs.Tables.{bytes-empty, bare-reads, init-short, init-other, init-reads}
+use Rattle.format.specs.Walk.{nothing-left}
+use Rattle.tables.proofs.Tables.{bare-reads, init-short, init-other, init-reads}
 use borrow.Author.Needs.{needs}
 use Rattle.tables.proofs.reader.walk_bytes.Statement.{statement}
 use Rattle.tables.proofs.reader.walk_bytes.Tie as tie
@@ -8,7 +9,7 @@ pub walk-bytes-spec : {M : Type 1} → statement M
 walk-bytes-spec =
     tie.close
     (tie.spec
-    (λ c. search bytes-empty)
+    (λ c. search nothing-left)
     (λ c. search needs)
     (λ c κs. search needs)
     (λ c κs. search needs)
