@@ -1,5 +1,5 @@
--- Data segments (document 01, Records and Items to bytes; Core Specification 3.0, Binary Format, Modules, Data Section), over any text, made of parts: passive,
--- or active in a memory. Assumes nothing.
+-- Data segments (document 01, Records and Items to bytes; Core Specification 3.0, Binary Format, Modules, Data Section), over any text, made of parts: where
+-- the data goes, and the data. Assumes nothing.
 use mathlib.Core.Path.{_≡_, refl, sym, ap, _∙_}
 use mathlib.Core.Logic.{_⊎_, inl, inr}
 use mathlib.Core.Bool.{Bool, true, false, cond}
@@ -15,11 +15,11 @@ use Rattle.format.specs.Agree.{Agree}
 use Rattle.format.specs.Alternatives.{Heads, is, alt, altOk, heads-tag, heads-alt, heads-pair}
 use Rattle.format.specs.Told.{one}
 use Rattle.leb128.specs.Formats.{u32}
-use Rattle.texts.specs.Section.{Section, textless, tagged}
+use Rattle.texts.specs.Section.{Section, textless}
 use Rattle.texts.specs.Words.{word}
 use Rattle.texts.specs.declared.Span.{Span}
 use Rattle.parts.specs.Text.{expression, content}
-use Rattle.parts.specs.Both.{both, behind}
+use Rattle.parts.specs.Both.{both}
 use Rattle.parts.specs.Chosen.{chosen}
 
 -- ---- a memory: in bytes, 0 is 00, another one 02 and its index
@@ -67,23 +67,25 @@ index-agree m = (λ h. h, λ h. h)
 abbrev pub memoryIndex : Section ℕ ℕ
 memoryIndex = textless word memoryIndexBytes index-agree
 
--- ---- passive: data; active: a memory, the offset and data
+-- ---- where data goes: nowhere yet (passive), or to a memory, from an offset on (active)
 
 pub data Mode : Type 0 where
   passive active : Mode
 
-abbrev pub SegmentOf : Mode → Type 0 → Type 0
-SegmentOf passive S = S
-SegmentOf active S = ℕ × (S × S)
+abbrev pub TargetOf : Mode → Type 0 → Type 0
+TargetOf passive S = Unit {0}
+TargetOf active S = ℕ × S
 
-abbrev pub Segment : Type 0 → Type 0
-Segment S = (m : Mode) × SegmentOf m S
+abbrev pub Target : Type 0 → Type 0
+Target S = (m : Mode) × TargetOf m S
 
--- words, behind the 11: mode (0 passive, 1 active), memory, offset span, data span; unused words are 0
--- bytes: active in memory 0 is 00 offset, in another memory 02 memory offset, passive 01; then length and bytes
-abbrev pub form : (m : Mode) → Section (SegmentOf m Span) (SegmentOf m (List ℕ))
-form passive = behind 1 (tagged 0 (tagged 0 (tagged 0 content)))
-form active = both memoryIndex (both expression content)
+-- words: memory, offset span; unused words are 0. Bytes: 01 if passive, else the memory and the offset
+abbrev pub noTarget : Section (Unit {0}) (Unit {0})
+noTarget = textless (tag 0 (tag 0 (lit 0))) (lit 1) (λ u. (λ h. tt, λ h. tt))
+
+abbrev pub targetOf : (m : Mode) → Section (TargetOf m Span) (TargetOf m (List ℕ))
+targetOf passive = noTarget
+targetOf active = both memoryIndex expression
 
 -- the mode word
 abbrev pub modeCode : Mode → ℕ
@@ -103,18 +105,29 @@ abbrev pub modeAt : List ℕ → Mode
 modeAt [] = active
 modeAt (x ∷ s) = cond (is 1 x) passive active
 
-pub active-heads : Heads (form active .bytes) (is 1) false
-active-heads = heads-pair memoryIndexBytes (both expression content .bytes) (is 1) false (λ m ok. index-heads (indexTo m) (index-fits m ok))
+pub active-heads : Heads (targetOf active .bytes) (is 1) false
+active-heads = heads-pair memoryIndexBytes (expression .bytes) (is 1) false (λ m ok. index-heads (indexTo m) (index-fits m ok))
   where
     index-heads : Heads zeroOrOther (is 1) false
     index-heads = heads-alt (is 0) (lit 0) (tag 2 u32) (is 1) false (heads-tag 0 empty (is 1) false refl) (heads-tag 2 u32 (is 1) false refl)
 
-pub mode-told : (m : Mode) (x : SegmentOf m (List ℕ)) (r : List ℕ) → form m .bytes .Ok x → modeAt (form m .bytes .print x ++ r) ≡ m
+pub mode-told : (m : Mode) (x : TargetOf m (List ℕ)) (r : List ℕ) → targetOf m .bytes .Ok x → modeAt (targetOf m .bytes .print x ++ r) ≡ m
 mode-told passive x r ok = refl
 mode-told active x r ok = let (y, t, e, n) = active-heads x ok in ap (λ (l : List ℕ). modeAt (l ++ r)) e ∙ rw n
 
-abbrev pub bytes : Format (Segment (List ℕ))
-bytes = one modeAt (λ m. form m .bytes) mode-told
+abbrev pub targetBytes : Format (Target (List ℕ))
+targetBytes = one modeAt (λ m. targetOf m .bytes) mode-told
+
+-- in words the mode first (0 passive, 1 active)
+abbrev pub target : Section (Target Span) (Target (List ℕ))
+target = chosen modeWord (λ m. tt) targetOf targetBytes (λ x. (λ h. h, λ h. h)) (λ x. refl)
+
+-- ---- a segment: where it goes, and its data
+-- words, behind the 11: mode, memory, offset span, data span
+-- bytes: active in memory 0 is 00 offset, in another memory 02 memory offset, passive 01; then length and bytes
+
+abbrev pub Segment : Type 0 → Type 0
+Segment S = Target S × S
 
 abbrev pub dataSection : Section (Segment Span) (Segment (List ℕ))
-dataSection = chosen modeWord (λ m. tt) form bytes (λ x. (λ h. h, λ h. h)) (λ x. refl)
+dataSection = both target content

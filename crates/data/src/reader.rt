@@ -13,7 +13,7 @@ ghost use Rattle.format.specs.Walk.{Walks};
 ghost use Rattle.texts.specs.Judge.{textMost};
 ghost use Rattle.texts.specs.Words.{word};
 ghost use Rattle.parts.specs.Reading.{Reading};
-ghost use Rattle.data.specs.Segment.{memoryIndexBytes, active, form, dataSection};
+ghost use Rattle.data.specs.Segment.{memoryIndexBytes, active, targetOf, target, dataSection};
 
 // 00 is memory 0, 02 another one.
 fn read_memory(b: &[u8], at: usize, out: &mut [u32], s: Done) -> Walk
@@ -37,32 +37,39 @@ fn read_memory(b: &[u8], at: usize, out: &mut [u32], s: Done) -> Walk
     Walk::Got(p, append_word(m, out, s))
 }
 
-// A memory, the offset and data.
+// A memory and the offset.
 fn read_active(b: &[u8], at: usize, out: &mut [u32], s: Done) -> Walk
     requires { ⌜ length (now b) ≤ textMost ⌝ }
-    ensures { λ r. ⌜ Reading (form active) (now (b .entry)) at (now (out .entry)) s (now (out .exit)) r ⌝ }
+    ensures { λ r. ⌜ Reading (targetOf active) (now (b .entry)) at (now (out .entry)) s (now (out .exit)) r ⌝ }
 {
     let Walk::Got(p, t) = read_memory(b, at, out, s) else {
         return Walk::No;
     };
-    let Walk::Got(q, u) = read_expr(b, p, out, t) else {
-        return Walk::No;
-    };
-    read_data(b, q, out, u)
+    read_expr(b, p, out, t)
 }
 
-// Reads the item at a place and appends the words behind the 11: 01 is a passive segment, which has no memory and no offset.
-pub fn walk_bytes(b: &[u8], at: usize, out: &mut [u32], s: Done) -> Walk
+// 01 is passive, which has no memory and no offset.
+fn read_target(b: &[u8], at: usize, out: &mut [u32], s: Done) -> Walk
     requires { ⌜ length (now b) ≤ textMost ⌝ }
-    ensures { λ r. ⌜ Reading dataSection (now (b .entry)) at (now (out .entry)) s (now (out .exit)) r ⌝ }
+    ensures { λ r. ⌜ Reading target (now (b .entry)) at (now (out .entry)) s (now (out .exit)) r ⌝ }
 {
     if b.len() <= at {
         return Walk::No;
     }
     if b[at] == 1 {
-        let t = append_words(&[0, 0, 0, 0], out, s);
-        return read_data(b, at + 1, out, t);
+        return Walk::Got(at + 1, append_words(&[0, 0, 0, 0], out, s));
     }
     let t = append_word(1, out, s);
     read_active(b, at, out, t)
+}
+
+// Reads the item at a place and appends the words behind the 11.
+pub fn walk_bytes(b: &[u8], at: usize, out: &mut [u32], s: Done) -> Walk
+    requires { ⌜ length (now b) ≤ textMost ⌝ }
+    ensures { λ r. ⌜ Reading dataSection (now (b .entry)) at (now (out .entry)) s (now (out .exit)) r ⌝ }
+{
+    let Walk::Got(p, t) = read_target(b, at, out, s) else {
+        return Walk::No;
+    };
+    read_data(b, p, out, t)
 }

@@ -6,5 +6,6 @@ pub use reader::find_name;
 pub use reader::read_data;
 pub use reader::read_expr;
 pub use reader::read_name;
+pub use writer::walk_data;
 pub use writer::walk_expr;
 pub use writer::walk_name;

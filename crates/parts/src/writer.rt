@@ -3,12 +3,13 @@ use format::Done;
 use format::Walk;
 use texts::Span;
 use texts::TextAt;
+use texts::append_data;
 use texts::append_expr;
 use texts::append_name;
 ghost use mathlib.Core.Path.{_≡_};
 ghost use lib.ListN.{drop};
 ghost use Rattle.texts.specs.Words.{span};
-ghost use Rattle.parts.specs.Text.{spanOf, name, expression};
+ghost use Rattle.parts.specs.Text.{spanOf, name, expression, content};
 ghost use Rattle.parts.specs.Writing.{Writing};
 
 fn find_span(words: &[u32], at: usize) -> TextAt
@@ -44,4 +45,14 @@ pub fn walk_expr(words: &[u32], at: usize, text: &[u8], out: &mut [u8], s: Done)
         return Walk::No;
     };
     Walk::Got(at + 2, append_expr(text, v, out, s))
+}
+
+// The span of data.
+pub fn walk_data(words: &[u32], at: usize, text: &[u8], out: &mut [u8], s: Done) -> Walk
+    ensures { λ r. ⌜ Writing content (now (text .entry)) (now (words .entry)) at (now (out .entry)) s (now (out .exit)) r ⌝ }
+{
+    let TextAt::At(v) = find_span(words, at) else {
+        return Walk::No;
+    };
+    Walk::Got(at + 2, append_data(text, v, out, s))
 }

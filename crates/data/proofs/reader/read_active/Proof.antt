@@ -1,8 +1,7 @@
--- `data::reader::read_active` meets its contract: a memory, an expression and data. Assumes nothing.
+-- `data::reader::read_active` meets its contract: a memory and an expression. Assumes nothing.
 use Rattle.texts.specs.Words.{word}
-use Rattle.parts.specs.Text.{expression, content}
-use Rattle.parts.specs.Both.{both}
-use Rattle.parts.specs.Reading.{part-missing, part-follows, textless-missing, follows-textless}
+use Rattle.parts.specs.Text.{expression}
+use Rattle.parts.specs.Reading.{textless-missing, follows-textless}
 use Rattle.data.specs.Segment.{memoryIndexBytes, index-agree}
 use borrow.Author.Needs.{needs}
 use Rattle.data.proofs.reader.read_active.Statement.{statement}
@@ -16,12 +15,7 @@ read-active-spec =
     (λ c. search needs)
     (λ c. search needs)
     (λ c. search needs)
-    (λ c. search (textless-missing word memoryIndexBytes index-agree (both expression content)))
+    (λ c. search (textless-missing word memoryIndexBytes index-agree expression))
     (λ c κs. search needs)
     (λ c. search needs)
-    (λ c. search needs)
-    (λ c. search needs)
-    (λ c. search (follows-textless word memoryIndexBytes index-agree (both expression content), part-missing expression content))
-    (λ c κs. search needs)
-    (λ c. search needs)
-    (λ c. search (follows-textless word memoryIndexBytes index-agree (both expression content), part-follows expression content)))
+    (λ c. search (follows-textless word memoryIndexBytes index-agree expression)))

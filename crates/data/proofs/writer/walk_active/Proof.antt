@@ -1,4 +1,4 @@
--- `data::writer::walk_active` meets its contract: a memory and two spans. Assumes nothing.
+-- `data::writer::walk_active` meets its contract: a memory and a span. Assumes nothing.
 use Rattle.data.proofs.Segments.{active-there}
 use borrow.Author.Needs.{needs}
 use Rattle.data.proofs.writer.walk_active.Statement.{statement}
@@ -16,13 +16,6 @@ walk-active-spec =
     (λ c. search needs)
     (λ c. search needs)
     (λ c. search needs)
-    (λ c. search needs)
-    (λ c. search needs)
-    (λ c. search needs)
-    (λ c. search needs)
-    (λ c. search needs)
-    (λ c. search needs)
-    (λ c κs. search needs)
     (λ c κs. search needs)
     (λ c. search needs)
     (λ c κs. search needs)

@@ -1,5 +1,5 @@
--- `data::writer::walk_passive` meets its contract: three unused words, and a span. Assumes nothing.
-use Rattle.data.proofs.Segments.{passive-used, passive-there}
+-- `data::writer::walk_passive` meets its contract: three unused words. Assumes nothing.
+use Rattle.data.proofs.Segments.{target-used, no-target}
 use borrow.Author.Needs.{needs}
 use Rattle.data.proofs.writer.walk_passive.Statement.{statement}
 use Rattle.data.proofs.writer.walk_passive.Tie as tie
@@ -10,23 +10,16 @@ walk-passive-spec =
     (tie.spec
     (λ c. search needs)
     (λ c. search needs)
-    (λ c. search (passive-used, c .if1 .taken))
+    (λ c. search (target-used, c .if1 .taken))
     (λ c. search needs)
     (λ c. search needs)
     (λ c. search needs)
-    (λ c. search (passive-used, c .if2 .taken))
+    (λ c. search (target-used, c .if2 .taken))
     (λ c. search needs)
     (λ c. search needs)
     (λ c. search needs)
-    (λ c. search (passive-used, c .if3 .taken))
-    (λ c. search needs)
-    (λ c. search needs)
-    (λ c. search needs)
-    (λ c. search needs)
-    (λ c. search needs)
+    (λ c. search (target-used, c .if3 .taken))
     (λ c. search needs)
     (λ c κs. search needs)
     (λ c. search needs)
-    (λ c κs. search needs)
-    (λ c. search needs)
-    (λ c. search passive-there))
+    (λ c. search no-target))
