@@ -3,7 +3,8 @@ use mathlib.Core.Path.{_≡_, refl}
 use mathlib.Core.List.{List, [], _∷_}
 use Prim.Native.Nat.{ℕ}
 use Rattle.leb128.specs.Leb.{leb, lebBy}
-use Rattle.data.specs.Segment.{passive, active, dataSection}
+use Rattle.data.specs.Target.{passive, active}
+use Rattle.data.specs.Segment.{dataSection}
 
 pub records : (dataSection .words .print ((active, (7, record { start = 0; len = 3 })), record { start = 3; len = 5 }) ≡ 1 ∷ 7 ∷ 0 ∷ 3 ∷ 3 ∷ 5 ∷ [])
     × (dataSection .words .print ((passive, tt), record { start = 3; len = 5 }) ≡ 0 ∷ 0 ∷ 0 ∷ 0 ∷ 3 ∷ 5 ∷ [])

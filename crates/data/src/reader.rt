@@ -13,7 +13,8 @@ ghost use Rattle.format.specs.Walk.{Walks};
 ghost use Rattle.texts.specs.Judge.{textMost};
 ghost use Rattle.texts.specs.Words.{word};
 ghost use Rattle.parts.specs.Reading.{Reading};
-ghost use Rattle.data.specs.Segment.{memoryIndexBytes, active, targetOf, target, dataSection};
+ghost use Rattle.data.specs.Target.{memoryIndexBytes, active, targetOf, target};
+ghost use Rattle.data.specs.Segment.{dataSection};
 
 // 00 is memory 0, 02 another one.
 fn read_memory(b: &[u8], at: usize, out: &mut [u32], s: Done) -> Walk

@@ -11,7 +11,8 @@ ghost use lib.ListN.{length};
 ghost use Rattle.format.specs.Count.{Appends, silent};
 ghost use Rattle.format.specs.Walk.{Walks};
 ghost use Rattle.parts.specs.Writing.{Writing};
-ghost use Rattle.data.specs.Segment.{memoryIndexBytes, active, noTarget, targetOf, target, dataSection};
+ghost use Rattle.data.specs.Target.{memoryIndexBytes, active, noTarget, targetOf, target};
+ghost use Rattle.data.specs.Segment.{dataSection};
 
 // Memory 0 is 00, another one 02 and its index.
 fn append_memory(m: u32, out: &mut [u8], s: Done) -> Done

@@ -2,7 +2,7 @@
 use Rattle.texts.specs.Words.{word}
 use Rattle.parts.specs.Text.{expression}
 use Rattle.parts.specs.Reading.{textless-missing, follows-textless}
-use Rattle.data.specs.Segment.{memoryIndexBytes, index-agree}
+use Rattle.data.specs.Target.{memoryIndexBytes, index-agree}
 use borrow.Author.Needs.{needs}
 use Rattle.data.proofs.reader.read_active.Statement.{statement}
 use Rattle.data.proofs.reader.read_active.Tie as tie

@@ -1,6 +1,6 @@
 -- `data::reader::read_memory` meets its contract: by the first byte, and what follows 02. Assumes nothing.
 use Rattle.format.specs.Walk.{nothing-left}
-use Rattle.data.proofs.Segments.{zero-there, no-memory, other-missing, other-zero, other-there}
+use Rattle.data.proofs.Targets.{zero-there, no-memory, other-missing, other-zero, other-there}
 use borrow.Author.Needs.{needs}
 use Rattle.data.proofs.reader.read_memory.Statement.{statement}
 use Rattle.data.proofs.reader.read_memory.Tie as tie

@@ -1,6 +1,6 @@
 -- `data::reader::read_target` meets its contract: by the first byte. Assumes nothing.
 use Rattle.format.specs.Walk.{nothing-left}
-use Rattle.data.proofs.Segments.{passive-reads, active-reads}
+use Rattle.data.proofs.Targets.{passive-reads, active-reads}
 use borrow.Author.Needs.{needs}
 use Rattle.data.proofs.reader.read_target.Statement.{statement}
 use Rattle.data.proofs.reader.read_target.Tie as tie

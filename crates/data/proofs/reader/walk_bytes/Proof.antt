@@ -1,7 +1,7 @@
 -- `data::reader::walk_bytes` meets its contract: where the data goes, and the data. Assumes nothing.
 use Rattle.parts.specs.Text.{content}
 use Rattle.parts.specs.Reading.{part-missing, part-follows}
-use Rattle.data.specs.Segment.{target}
+use Rattle.data.specs.Target.{target}
 use borrow.Author.Needs.{needs}
 use Rattle.data.proofs.reader.walk_bytes.Statement.{statement}
 use Rattle.data.proofs.reader.walk_bytes.Tie as tie

@@ -1,5 +1,5 @@
 -- `data::writer::append_memory` meets its contract: memory 0, or another. Assumes nothing.
-use Rattle.data.proofs.Segments.{first-memory-added, other-memory-added}
+use Rattle.data.proofs.Targets.{first-memory-added, other-memory-added}
 use borrow.Author.Needs.{needs}
 use Rattle.data.proofs.writer.append_memory.Statement.{statement}
 use Rattle.data.proofs.writer.append_memory.Tie as tie

@@ -1,5 +1,5 @@
 -- `data::writer::walk_active` meets its contract: a memory and a span. Assumes nothing.
-use Rattle.data.proofs.Segments.{active-there}
+use Rattle.data.proofs.Targets.{active-there}
 use borrow.Author.Needs.{needs}
 use Rattle.data.proofs.writer.walk_active.Statement.{statement}
 use Rattle.data.proofs.writer.walk_active.Tie as tie

@@ -1,5 +1,5 @@
 -- `data::writer::walk_passive` meets its contract: three unused words. Assumes nothing.
-use Rattle.data.proofs.Segments.{target-used, no-target}
+use Rattle.data.proofs.Targets.{target-used, no-target}
 use borrow.Author.Needs.{needs}
 use Rattle.data.proofs.writer.walk_passive.Statement.{statement}
 use Rattle.data.proofs.writer.walk_passive.Tie as tie

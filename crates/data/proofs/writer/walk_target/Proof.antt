@@ -1,6 +1,6 @@
 -- `data::writer::walk_target` meets its contract: by the mode. Assumes nothing.
 use Rattle.format.specs.Walk.{nothing-left}
-use Rattle.data.proofs.Segments.{few-words, passive-writes, active-writes, no-mode}
+use Rattle.data.proofs.Targets.{few-words, passive-writes, active-writes, no-mode}
 use borrow.Author.Needs.{needs}
 use Rattle.data.proofs.writer.walk_target.Statement.{statement}
 use Rattle.data.proofs.writer.walk_target.Tie as tie

@@ -1,7 +1,7 @@
 -- `data::writer::walk_words` meets its contract: where the data goes, and the data. Assumes nothing.
 use Rattle.parts.specs.Text.{content}
 use Rattle.parts.specs.Writing.{part-missing, part-follows}
-use Rattle.data.specs.Segment.{target}
+use Rattle.data.specs.Target.{target}
 use borrow.Author.Needs.{needs}
 use Rattle.data.proofs.writer.walk_words.Statement.{statement}
 use Rattle.data.proofs.writer.walk_words.Tie as tie

@@ -26,7 +26,7 @@ use Rattle.texts.specs.declared.Span.{Span}
 use Rattle.parts.specs.Writing.{Writing}
 use Rattle.parts.specs.Reading.{Reading}
 use Rattle.parts.specs.Chosen.{chosen-writing, chosen-reading}
-use Rattle.data.specs.Segment.{memoryIndexBytes, Mode, passive, active, TargetOf, noTarget, targetOf, modeCode, modeWord, modeAt, targetBytes, target}
+use Rattle.data.specs.Target.{memoryIndexBytes, Mode, passive, active, TargetOf, noTarget, targetOf, modeCode, modeWord, modeAt, targetBytes, target}
 
 -- ---- a memory
 
