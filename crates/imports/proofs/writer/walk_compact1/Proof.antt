@@ -15,4 +15,4 @@ walk-compact1-spec =
     (λ c. search needs)
     (λ c κs. search needs)
     (λ c. search needs)
-    (λ c. search (behind-two 0x00 0x7F (listed (member Import)))))
+    (λ c. search (behind-two 0x00 0x7F (listed (member Import))) depth 2))

@@ -19,4 +19,4 @@ walk-name-spec =
     (λ c. search behind-span)
     (λ c κs. search needs)
     (λ c. search needs)
-    (λ c. search (text-writes named nameBytes sizedAt nameHolds)))
+    (λ c. search (text-writes named nameBytes sizedAt nameHolds) depth 2))

@@ -18,7 +18,7 @@ walk-unused-spec =
     (λ c. search needs)
     (λ c. search needs)
     (λ c. search needs)
-    (λ c. search second-used)
+    (λ c. search second-used depth 2)
     (λ c. search needs)
     (λ c κs. search needs)
     (λ c. search needs)
