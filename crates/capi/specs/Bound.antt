@@ -23,7 +23,7 @@ one-valued {A = A} p q =
 pub one-added : {w : append.Outcome} {a b m n : ℕ} {xs ys : List ℕ} → added a m xs ≡ w → added b n ys ≡ w → (a ≡ b) × (m ≡ n) × (xs ≡ ys)
 one-added p q =
     let e = p ∙ sym q in
-    (ap (λ (o : append.Outcome). o .number) e, ap (λ (o : append.Outcome). o .used) e, ap (λ (o : append.Outcome). o .store) e)
+    (ap (λ (o : append.Outcome). o .number) e, ap (λ (o : append.Outcome). o .state .used) e, ap (λ (o : append.Outcome). o .store) e)
 
 pub one-took : {w : item.Outcome} {a b k l m n : ℕ} {xs ys : List ℕ} → took a k m xs ≡ w → took b l n ys ≡ w → (a ≡ b) × (k ≡ l) × (m ≡ n) × (xs ≡ ys)
 one-took p q =

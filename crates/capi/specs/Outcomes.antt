@@ -6,6 +6,7 @@ use Prim.Native.Nat.{ℕ}
 use Rattle.format.specs.Write as write
 use Rattle.format.specs.Read as read
 use Rattle.frames.specs.Append as append
+use Rattle.frames.specs.declared.State.{State}
 use Rattle.thriftbell.specs.Read as item
 use Rattle.lines.specs.Answer as line
 
@@ -17,9 +18,13 @@ written number length out = record { number = number; value = length; memory = o
 abbrev pub valued : {A : Type 0} → ℕ → A → ℕ → read.Outcome A
 valued number value end = record { number = number; value = value; place = end }
 
+-- the state, by its numbers
+abbrev pub stated : ℕ → State
+stated used = record { used = used }
+
 -- adding: the room used, and the store
 abbrev pub added : ℕ → ℕ → List ℕ → append.Outcome
-added number used store = record { number = number; used = used; store = store }
+added number used store = record { number = number; state = stated used; store = store }
 
 -- reading an item: how many words and bytes, and the output
 abbrev pub took : ℕ → ℕ → ℕ → List ℕ → item.Outcome
@@ -39,4 +44,4 @@ answered number used length store buffer out = record { number = number; used = 
 
 -- 10 where there is no room for the longest answer
 abbrev pub numbered : line.Outcome → Answered
-numbered o = record { number = cond (o .room) 0 10; used = o .used; length = o .value; store = o .store; buffer = o .buffer; out = o .out }
+numbered o = record { number = cond (o .room) 0 10; used = o .state .used; length = o .value; store = o .store; buffer = o .buffer; out = o .out }

@@ -2,6 +2,7 @@
 // refusal every number that was lent is 0, but for the room used, which stays, and every byte stays. c/thriftbell.h and rust/src/lib.rs declare them.
 mod told;
 
+use thriftbell::Given;
 use thriftbell::State;
 use told::tell_added;
 use told::tell_finished;
@@ -22,11 +23,12 @@ ghost use Rattle.leb128.specs.Formats.{u32 as u32s, u64 as u64s, s32, s64, inde
 ghost use Rattle.names.specs.Name.{isName};
 ghost use Rattle.exprs.specs.Scan.{answer};
 ghost use Rattle.exprs.specs.Const.{constOf};
+ghost use Rattle.sections.specs.Section.{ending};
 ghost use Rattle.module.specs.Finish.{finishing};
 ghost use Rattle.thriftbell.specs.Add.{adding};
 ghost use Rattle.thriftbell.specs.Read.{reading as readingItem};
 ghost use Rattle.lines.specs.Answer.{answering};
-ghost use Rattle.capi.specs.Outcomes.{written, valued, added, took, answered, numbered};
+ghost use Rattle.capi.specs.Outcomes.{stated, written, valued, added, took, answered, numbered};
 
 // Writing a number at the front of `out`: 0 and its length, or 10.
 #[no_mangle]
@@ -172,7 +174,7 @@ pub extern "C" fn thriftbell_add(
     words: &[u32],
     text: &[u8],
 ) -> u32
-    ensures { λ r. ⌜ added r (now (used .exit)) (now (store .exit)) ≡ adding (now (used .entry)) (now (store .entry)) (now (words .entry)) (now (text .entry)) ⌝ }
+    ensures { λ r. ⌜ added r (now (used .exit)) (now (store .exit)) ≡ adding (stated (now (used .entry))) (now (store .entry)) (now (words .entry)) (now (text .entry)) ⌝ }
 {
     tell_added(
         thriftbell::add(State { used: *used }, store, words, text),
@@ -190,10 +192,11 @@ pub extern "C" fn thriftbell_finish(
     out: &mut [u8],
     length: &mut usize,
 ) -> u32
-    ensures { λ r. ⌜ written r (now (length .exit)) (now (out .exit)) ≡ finishing used (now (store .entry)) (now (order .entry)) count (now (out .entry)) ⌝ }
+    ensures { λ r. ⌜ written r (now (length .exit)) (now (out .exit)) ≡ finishing (stated used) (now (store .entry)) (ending (now (order .entry)) (record { count = count })) (now (out .entry)) ⌝ }
 {
+    let given = Given { count: count };
     tell_finished(
-        thriftbell::finish(State { used: used }, store, order, count, out),
+        thriftbell::finish(State { used: used }, store, order, given, out),
         length,
     )
 }
@@ -222,7 +225,7 @@ pub extern "C" fn thriftbell_answer_line(
     out: &mut [u8],
     length: &mut usize,
 ) -> u32
-    ensures { λ r. ⌜ answered r (now (used .exit)) (now (length .exit)) (now (store .exit)) (now (buffer .exit)) (now (out .exit)) ≡ numbered (answering (now (used .entry)) (now (store .entry)) (now (buffer .entry)) (now (out .entry)) (now (line .entry))) ⌝ }
+    ensures { λ r. ⌜ answered r (now (used .exit)) (now (length .exit)) (now (store .exit)) (now (buffer .exit)) (now (out .exit)) ≡ numbered (answering (stated (now (used .entry))) (now (store .entry)) (now (buffer .entry)) (now (out .entry)) (now (line .entry))) ⌝ }
 {
     tell_reply(
         lines::answer(line, State { used: *used }, store, buffer, out),

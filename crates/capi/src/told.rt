@@ -82,17 +82,13 @@ pub fn tell_i64(r: ReadI64, value: &mut i64, end: &mut usize) -> u32
     0
 }
 
-// The room used stays where nothing was added.
+// The state is beside the answer, as it was where nothing was added.
 pub fn tell_added(a: Added, used: &mut usize) -> u32
-    ensures { λ r. ⌜ ((store : List ℕ) → added r (now (used .exit)) store ≡ addOutcome (now (used .entry)) a store) ⌝ }
+    ensures { λ r. ⌜ ((store : List ℕ) → added r (now (used .exit)) store ≡ addOutcome a store) ⌝ }
 {
-    match a {
-        Added::To(state) => {
-            *used = state.used;
-            0
-        }
-        Added::Refused(k) => k,
-    }
+    let state = a.state;
+    *used = state.used;
+    a.number
 }
 
 pub fn tell_finished(f: Finished, length: &mut usize) -> u32
@@ -104,10 +100,7 @@ pub fn tell_finished(f: Finished, length: &mut usize) -> u32
             *length = n;
             0
         }
-        Finished::Over => 1,
-        Finished::Order => 8,
-        Finished::NoFrames => 9,
-        Finished::Short => 10,
+        Finished::Refused(k) => k,
     }
 }
 
@@ -127,15 +120,17 @@ pub fn tell_taken(t: Taken, words: &mut usize, taken: &mut usize) -> u32
 }
 
 pub fn tell_reply(a: Reply, used: &mut usize, length: &mut usize) -> u32
-    ensures { λ r. ⌜ ((store buffer out : List ℕ) → answered r (now (used .exit)) (now (length .exit)) store buffer out ≡ numbered (lineOutcome (now (used .entry)) a store buffer out)) ⌝ }
+    ensures { λ r. ⌜ ((store buffer out : List ℕ) → answered r (now (used .exit)) (now (length .exit)) store buffer out ≡ numbered (lineOutcome a store buffer out)) ⌝ }
 {
+    let state = a.state;
+    *used = state.used;
     *length = 0;
-    match a {
-        Reply::Line(state, n) => {
-            *used = state.used;
+    let line = a.line;
+    match line {
+        Written::Length(n) => {
             *length = n;
             0
         }
-        Reply::Short => 10,
+        Written::Short => 10,
     }
 }

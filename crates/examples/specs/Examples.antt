@@ -58,7 +58,7 @@ typeFrame = record { id = 1; item = itemIn records typeRecord [] }
 pub record TypeSection : Type 0 where
   pub accepted : why records typeRecord [] ≡ 0
   -- type section of (i32 i32) to i32: 01 07 01 60 02 7F 7F 01 7F
-  pub section : sectionOf 0 (typeFrame ∷ []) 1 ≡ 0x01 ∷ 0x07 ∷ 0x01 ∷ 0x60 ∷ 0x02 ∷ 0x7F ∷ 0x7F ∷ 0x01 ∷ 0x7F ∷ []
+  pub section : sectionOf (record { count = 0 }) (typeFrame ∷ []) 1 ≡ 0x01 ∷ 0x07 ∷ 0x01 ∷ 0x60 ∷ 0x02 ∷ 0x7F ∷ 0x7F ∷ 0x01 ∷ 0x7F ∷ []
 
 -- the statement
 pub record Examples : Type 0 where

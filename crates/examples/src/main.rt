@@ -4,6 +4,7 @@ use format::Written;
 use frames::State;
 use libc::STDOUT_FILENO;
 use module::Finished;
+use module::Given;
 use numbers::ReadI32;
 use numbers::ReadI64;
 use numbers::ReadU64;
@@ -121,14 +122,11 @@ fn refused(k: u32) {
 
 // What an add answered, in words.
 fn show_added(a: Added) {
-    match a {
-        Added::To(_) => {
-            say(b" accepted\n");
-        }
-        Added::Refused(k) => {
-            refused(k);
-        }
+    if a.number == 0 {
+        say(b" accepted\n");
+        return;
     }
+    refused(a.number);
 }
 
 fn show_finished(f: Finished, out: &[u8]) {
@@ -137,17 +135,8 @@ fn show_finished(f: Finished, out: &[u8]) {
             show(out, n);
             say(b"\n");
         }
-        Finished::Over => {
-            say(b" refused, 1\n");
-        }
-        Finished::Order => {
-            say(b" refused, 8\n");
-        }
-        Finished::NoFrames => {
-            say(b" refused, 9\n");
-        }
-        Finished::Short => {
-            say(b" refused, 10\n");
+        Finished::Refused(k) => {
+            refused(k);
         }
     }
 }
@@ -155,7 +144,8 @@ fn show_finished(f: Finished, out: &[u8]) {
 // The data count section, and the data.
 fn show_module(state: State, store: &[u8], out: &mut [u8]) {
     let order = [12, 11];
-    show_finished(module::finish(state, store, &order, 1, out), out);
+    let given = Given { count: 1 };
+    show_finished(module::finish(state, store, &order, given, out), out);
 }
 
 // The whole case: a passive data record, the byte 41; and the same with one byte of output too few.
@@ -163,10 +153,12 @@ fn whole_case() {
     let mut store = [0u8; 32];
     let mut out = [0u8; 17];
     let mut less = [0u8; 16];
-    let Added::To(state) = thriftbell::add(State::new(), &mut store, &PASSIVE, b"A") else {
+    let a = thriftbell::add(State::new(), &mut store, &PASSIVE, b"A");
+    if a.number != 0 {
         say(b"not added\n");
         return;
-    };
+    }
+    let state = a.state;
     say(b"data count and data, a passive record:");
     show_module(state, &store, &mut out);
     say(b"into one byte less:");
@@ -225,7 +217,11 @@ fn empty_order() {
     let store = [0u8; 0];
     let mut out = [0u8; 8];
     say(b"empty order:");
-    show_finished(module::finish(State::new(), &store, &[], 0, &mut out), &out);
+    let given = Given { count: 0 };
+    show_finished(
+        module::finish(State::new(), &store, &[], given, &mut out),
+        &out,
+    );
 }
 
 // A frame that fills the store exactly, and one that would by a byte not fit.

@@ -12,7 +12,8 @@ use mathlib.Core.Logic.{⊎-elim}
 use Rattle.format.specs.Write.{fits-or}
 use Rattle.format.specs.Parsed.{Parsed, fail, got}
 use Rattle.format.specs.Read.{drop-more, placeOf, rest-at}
-use Rattle.frames.specs.Frames.{Frame, frame, frame-long, sections, among, valueOf, itemMost}
+use Rattle.frames.specs.Frames.{Frame, frame, frame-long, valueOf, itemMost}
+use Rattle.frames.specs.Ids.{sections, among}
 use Rattle.frames.specs.declared.FrameAt.the-variants.{Is, No}
 use Rattle.frames.specs.Place.{placed, frameAt}
 

@@ -11,7 +11,8 @@ use borrow.Author.Tests.{ne-eqb, eq-eqb}
 use Rattle.format.specs.Runs.{run, run-more, run-stop, run-none}
 use Rattle.format.specs.Lists.{prints, prints-more}
 use Rattle.format.specs.Read.{drop-end}
-use Rattle.frames.specs.Frames.{Frame, frame, frame-some, frame-long, among-each, sections}
+use Rattle.frames.specs.Frames.{Frame, frame, frame-some, frame-long}
+use Rattle.frames.specs.Ids.{among-each, sections}
 use Rattle.frames.specs.Place.{frameAt}
 use Rattle.frames.specs.declared.FrameAt.the-variants.{No}
 use Rattle.frames.specs.Tally.{itemsOf, joined, items-few, table, countsOf, totalsOf, tallyOf, table-at, table-set}

@@ -1,22 +1,19 @@
--- Frames (document 01, Store and module): section id, item length in four bytes, low first, then the item; and the frames that a store's used room holds
--- (answer 9: none). Assumes nothing.
-use mathlib.Core.Path.{_≡_, refl, sym, ap, _∙_, subst}
-use mathlib.Core.Bool.{Bool, true, false, cond, true≢false}
+-- Frames (document 01, Store and module): section id, item length in four bytes, low first, then the item. Assumes nothing.
+use mathlib.Core.Path.{_≡_, refl, sym, ap, _∙_}
+use mathlib.Core.Bool.{Bool, true, false}
 use mathlib.Core.Option.{Option, none, some}
-use mathlib.Core.List.{List, [], _∷_}
+use mathlib.Core.List.{List, []}
 use Prim.Native.Nat.{ℕ, _+_, _*_, _/_, _%_, _<_, _^_}
 use native.Mathlib.Omega.{arith}
-use lib.Dec.{eqb, leb}
-use lib.ListN.{length, take}
-use borrow.Author.Tests.{eqb-true}
+use lib.Dec.{leb}
+use lib.ListN.{length}
 use Rattle.format.specs.Format.{Format}
 use Rattle.format.specs.Lists.{All}
 use Rattle.format.specs.Basic.{number, via}
 use Rattle.format.specs.Combine.{pair, iso, guard}
 use Rattle.format.specs.Sized.{sized}
 use Rattle.format.specs.Runs.{run, run-only}
-use Rattle.frames.specs.declared.SectionId.{SectionId}
-use Rattle.frames.specs.declared.SectionId.the-variants.{Types, Imports, Tables, Elements, Data}
+use Rattle.frames.specs.Ids.{sections, among}
 
 -- ---- a number in four bytes, low first
 
@@ -70,44 +67,6 @@ word32 =
 
 -- ---- a frame
 
--- the ids of the sections that hold items (Core Specification 3.0, Binary Format, Modules, Sections)
-abbrev pub idOf : SectionId → ℕ
-idOf Types = 1
-idOf Imports = 2
-idOf Tables = 4
-idOf Elements = 9
-idOf Data = 11
-
-abbrev pub sections : List ℕ
-sections = 1 ∷ 2 ∷ 4 ∷ 9 ∷ 11 ∷ []
-
-abbrev pub among : List ℕ → ℕ → Bool
-among [] i = false
-among (x ∷ xs) i = cond (eqb i x) true (among xs i)
-
--- what holds of each of them holds of what is among them
-pub among-each : (P : ℕ → Type 0) (xs : List ℕ) (i : ℕ) → All P xs → among xs i ≡ true → P i
-among-each P [] i h e = absurd (true≢false (sym e))
-among-each P (x ∷ xs) i h e = go (eqb i x) refl e (among-each P xs i (h .1))
-  where
-    go : (t : Bool) → eqb i x ≡ t → cond t true (among xs i) ≡ true → (among xs i ≡ true → P i) → P i
-    go true q e f = subst P (sym (eqb-true i x q)) (h .0)
-    go false q e f = f e
-
-pub id-among : (s : SectionId) → among sections (idOf s) ≡ true
-id-among Types = refl
-id-among Imports = refl
-id-among Tables = refl
-id-among Elements = refl
-id-among Data = refl
-
-pub id-small : (s : SectionId) → idOf s < 256
-id-small Types = omega arith
-id-small Imports = omega arith
-id-small Tables = omega arith
-id-small Elements = omega arith
-id-small Data = omega arith
-
 -- at most 65,536 bytes
 abbrev pub itemMost : ℕ
 itemMost = 65536
@@ -120,10 +79,6 @@ abbrev pub frame : Format Frame
 frame =
     iso (pair (guard byte (among sections)) (sized (guard word32 (λ n. leb n itemMost))))
     (λ f. (f .id, f .item)) (λ p. record { id = p .0; item = p .1 }) (λ f. refl) (λ p. refl)
-
--- the frames that the first `room` bytes of a store are, from byte 0; none where they do not end there
-abbrev pub framesIn : ℕ → List ℕ → Option (List Frame)
-framesIn room store = run frame (take room store)
 
 -- whether there are none, and those that there are
 abbrev pub noFrames : Option (List Frame) → Bool

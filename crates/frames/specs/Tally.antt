@@ -10,7 +10,8 @@ use lib.ListN.{length, getD, set, length-append}
 use borrow.Author.Tests.{eqb-true}
 use Rattle.format.specs.Lists.{prints, All}
 use Rattle.format.specs.Runs.{run, run-only}
-use Rattle.frames.specs.Frames.{Frame, frame, frame-long, held, framesOf, sections, among}
+use Rattle.frames.specs.Frames.{Frame, frame, frame-long, held, framesOf}
+use Rattle.frames.specs.Ids.{sections, among}
 use Rattle.frames.specs.declared.Tallies.{Tallies}
 
 -- a section's items, in order of adding

@@ -4,7 +4,9 @@ use format::least;
 ghost use mathlib.Core.Path.{_≡_};
 ghost use Rattle.format.specs.Write.{Writes};
 ghost use Rattle.format.specs.Runs.{run};
-ghost use Rattle.frames.specs.Frames.{idOf, sections, among, valueOf, frame};
+ghost use Rattle.frames.specs.Frames.{valueOf, frame};
+ghost use Rattle.frames.specs.Ids.{idOf, sections, among};
+ghost use Rattle.frames.specs.Builder.{fresh, isOver};
 ghost use Rattle.frames.specs.Place.{frameAt};
 ghost use Rattle.frames.specs.Tally.{tallyOf};
 ghost use Rattle.frames.specs.Append.{headBytes};
@@ -21,10 +23,21 @@ pub struct State {
 
 impl State {
     pub fn new() -> Self
-        ensures { λ r. ⌜ r .used ≡ 0 ⌝ }
+        ensures { λ r. ⌜ r ≡ fresh ⌝ }
     {
         Self { used: 0 }
     }
+}
+
+// Whether the store is over its limit, or the room used above its length.
+pub fn is_over(state: State, store: &[u8]) -> bool
+    ensures { λ r. ⌜ r ≡ isOver state (now (store .entry)) ⌝ }
+{
+    let used = state.used;
+    if STORE_MOST < store.len() {
+        return true;
+    }
+    store.len() < used
 }
 
 // The sections that hold items.

@@ -13,11 +13,19 @@ use Rattle.format.specs.Basic.{via}
 use Rattle.format.specs.Combine.{pair}
 use Rattle.format.specs.Lists.{many}
 use Rattle.frames.specs.Frames.{byte, word32}
+use Rattle.sections.specs.Section.{Ending, ending}
 
--- an add: a record's words, and its text; a finish: the data count, and the order list
+-- an add: a record's words, and its text; a finish: what it is told
 pub data Frame : Type 0 where
   adds : List ℕ → List ℕ → Frame
-  finishes : ℕ → List ℕ → Frame
+  finishes : Ending → Frame
+
+-- frame 02: the data count, and the order list
+abbrev pub told : ℕ → List ℕ → Ending
+told count order = ending order (record { count = count })
+
+abbrev pub finishTold : ℕ → List ℕ → Frame
+finishTold count order = finishes (told count order)
 
 pub half-of : (p : ℕ × ℕ) (n : ℕ) → (p .0 < 256) × (p .1 < 256) → some (p .0 + 256 * p .1) ≡ some n → (n < 65536) × (p ≡ (n % 256, n / 256))
 half-of p n (a, b) e =
@@ -52,22 +60,22 @@ whole f (got a rest) = some (f a rest)
 -- "missing parts, other kinds"
 unfoldable pub frameOf : List ℕ → Option Frame
 frameOf [] = none
-frameOf (kind ∷ s) = cond (eqb kind 1) (whole adds (wordList .parse s)) (cond (eqb kind 2) (whole finishes (word32 .parse s)) none)
+frameOf (kind ∷ s) = cond (eqb kind 1) (whole adds (wordList .parse s)) (cond (eqb kind 2) (whole finishTold (word32 .parse s)) none)
 
 -- ---- a frame's bytes, and that no other bytes are it
 
 abbrev pub frameBytes : Frame → List ℕ
 frameBytes (adds words text) = 1 ∷ (wordList .print words ++ text)
-frameBytes (finishes count order) = 2 ∷ (word32 .print count ++ order)
+frameBytes (finishes e) = 2 ∷ (word32 .print (e .given .count) ++ e .order)
 
 abbrev pub FrameOk : Frame → Type 0
 FrameOk (adds words text) = wordList .Ok words
-FrameOk (finishes count order) = word32 .Ok count
+FrameOk (finishes e) = word32 .Ok (e .given .count)
 
 pub frame-back : (f : Frame) → FrameOk f → frameOf (frameBytes f) ≡ some f
 unfolding frameOf
 frame-back (adds words text) h = rw (wordList .back words text h)
-frame-back (finishes count order) h = rw (word32 .back count order h)
+frame-back (finishes e) h = rw (word32 .back (e .given .count) (e .order) h)
 
 whole-inv : {A : Type 0} (F : Format A) (f : A → List ℕ → Frame) (s : List ℕ) (g : Frame) → whole f (F .parse s) ≡ some g
     → (a : A) × (r : List ℕ) × (g ≡ f a r) × F .Ok a × (s ≡ F .print a ++ r)
@@ -82,14 +90,14 @@ unfolding frameOf
 frame-only [] f e = absurd (Option·none-ne-some f e)
 frame-only (kind ∷ s) f e = go (eqb kind 1) refl (eqb kind 2) refl e
   where
-    go : (t : Bool) → eqb kind 1 ≡ t → (u : Bool) → eqb kind 2 ≡ u → cond t (whole adds (wordList .parse s)) (cond u (whole finishes (word32 .parse s)) none) ≡ some f
+    go : (t : Bool) → eqb kind 1 ≡ t → (u : Bool) → eqb kind 2 ≡ u → cond t (whole adds (wordList .parse s)) (cond u (whole finishTold (word32 .parse s)) none) ≡ some f
         → FrameOk f × (kind ∷ s ≡ frameBytes f)
     go true p u q e =
         let (words, text, g, ok, r) = whole-inv wordList adds s f e in
         let k : kind ≡ 1 = eqb-true kind 1 p in
         rw g (ok, ap (λ (n : ℕ). n ∷ s) k ∙ ap (λ (l : List ℕ). 1 ∷ l) r)
     go false p true q e =
-        let (count, order, g, ok, r) = whole-inv word32 finishes s f e in
+        let (count, order, g, ok, r) = whole-inv word32 finishTold s f e in
         let k : kind ≡ 2 = eqb-true kind 2 q in
         rw g (ok, ap (λ (n : ℕ). n ∷ s) k ∙ ap (λ (l : List ℕ). 2 ∷ l) r)
     go false p false q e = absurd (Option·none-ne-some f e)

@@ -15,7 +15,7 @@ use Rattle.format.specs.Runs.{run-only, run-back}
 use Rattle.frames.specs.Frames.{byte}
 use Rattle.hex.specs.Hex.{charOf, hexByte, hex-some, lineBytes, hexOf}
 use Rattle.hex.specs.Sum.{sumOf, checkOf, check-exactly}
-use Rattle.hex.specs.Frame.{Frame, finishes, frameOf, frameBytes, FrameOk, frame-back, frame-only}
+use Rattle.hex.specs.Frame.{Frame, finishTold, frameOf, frameBytes, FrameOk, frame-back, frame-only}
 
 -- "at most 8,192 digits"
 abbrev pub digitsMost : ℕ
@@ -110,7 +110,7 @@ line-refuses line = (λ e f l. Option·none-ne-some f (sym e ∙ line-back f lin
     go h (some f) e = absurd (h f (line-only line f e))
 
 -- the finish of document 01's whole case: 02010000000C0BE6
-pub finish-line : LineFor (finishes 1 (0x0C ∷ 0x0B ∷ []))
+pub finish-line : LineFor (finishTold 1 (0x0C ∷ 0x0B ∷ []))
     (0x30 ∷ 0x32 ∷ 0x30 ∷ 0x31 ∷ 0x30 ∷ 0x30 ∷ 0x30 ∷ 0x30 ∷ 0x30 ∷ 0x30 ∷ 0x30 ∷ 0x43 ∷ 0x30 ∷ 0x42 ∷ 0x45 ∷ 0x36 ∷ [])
 unfolding charOf
 finish-line = record {

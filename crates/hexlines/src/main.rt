@@ -5,6 +5,7 @@ use libc::STDOUT_FILENO;
 use replies::Run;
 use replies::end_input;
 use replies::take_piece;
+use thriftbell::State;
 ghost use mathlib.Core.Path.{_≡_};
 ghost use Prim.Native.Nat.{_≤_};
 ghost use lib.ListN.{length};
@@ -30,8 +31,9 @@ fn answer_all(
     requires { ⌜ (length (now line) ≡ keptMost) × (length (now buffer) ≤ 32768) × (longest ≤ length (now out)) ⌝ }
     ensures { λ s. ⌜ s .at ≤ length (now (out .exit)) ⌝ }
 {
+    let state = State::new();
     let mut run = Run {
-        used: 0,
+        state: state,
         n: 0,
         at: 0,
         ok: true,

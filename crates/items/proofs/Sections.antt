@@ -14,19 +14,18 @@ use Rattle.format.specs.Walk.{Walking, Walks, nothing-there, walks-as}
 use Rattle.format.specs.declared.Done.{Done}
 use Rattle.format.specs.declared.Walk.{Walk}
 use Rattle.format.specs.declared.Walk.the-variants as walks
-use Rattle.frames.specs.Frames.{idOf}
+use Rattle.frames.specs.Ids.{idOf, ids, every, id-full}
 use Rattle.frames.specs.declared.SectionId.{SectionId}
-use Rattle.frames.specs.declared.SectionId.the-variants.{Types, Imports, Tables, Elements, Data}
 use Rattle.parts.specs.Reading.{Reading}
 use Rattle.parts.specs.Writing.{Writing, lowest-behind}
-use Rattle.items.specs.Record.{section, ids, id-full, idWord, words, textsOf, itemOf, lowOf, recordOf, itemsOf, beginsIn}
+use Rattle.items.specs.Record.{section, idWord, words, textsOf, itemOf, lowOf, recordOf, itemsOf, beginsIn}
 
 -- a number that is no section's id
 abbrev pub NoId : ℕ → Type 0
 NoId x = All (λ (i : SectionId). x ≡ idOf i → ⊥) ids
 
 no-id : (x : ℕ) → NoId x → (i : SectionId) → x ≡ idOf i → ⊥
-no-id x n = elim [ Types ↦ n .0 | Imports ↦ n .1 .0 | Tables ↦ n .1 .1 .0 | Elements ↦ n .1 .1 .1 .0 | Data ↦ n .1 .1 .1 .1 .0 ]
+no-id x n = every (λ i. x ≡ idOf i → ⊥) n
 
 -- ---- words: the first is a section's id, or there is none, or it is none's
 

@@ -10,7 +10,7 @@ use lib.ListN.{length, getD, take, drop}
 use lib.Seq.{take-at}
 use borrow.Author.Tests.{ne-eqb, eqb-true, eqb-false}
 use Rattle.format.specs.Write.{over}
-use Rattle.frames.specs.Frames.{idOf}
+use Rattle.frames.specs.Ids.{idOf}
 use Rattle.frames.specs.declared.SectionId.{SectionId}
 use Rattle.frames.specs.declared.SectionId.the-variants.{Data}
 use Rattle.texts.specs.Judge.{itemMost, recordIn, why, itemIn, record-inv, fine}

@@ -1,4 +1,5 @@
 -- The sum over the sections, what its records draw, and reading after adding.
+pub mod Families
 pub mod Record
 pub mod Exception
 pub mod Judging

@@ -9,14 +9,15 @@ use lib.Dec.{leb}
 use lib.ListN.{length}
 use Rattle.format.specs.Parsed.{Parsed, fail, got, got-rest, fail-got, bind, map, map-inv}
 use Rattle.format.specs.Basic.{find, find-only}
-use Rattle.frames.specs.Frames.{idOf}
+use Rattle.frames.specs.Ids.{idOf, ids, id-full}
 use Rattle.frames.specs.declared.SectionId.{SectionId}
 use Rattle.texts.specs.Judge.{wordsMost, textMost, recordIn, itemIn, why}
 use Rattle.texts.specs.Section.{Section, tagged, readWords, readable, Among}
 use Rattle.texts.specs.Reading as reading
 use Rattle.texts.specs.declared.Span.{Span}
-use Rattle.items.specs.Exception.{filledBody, filled, exception, recordFrom, read-filled, added-filled}
-use Rattle.items.specs.Record.{Body, ItemOf, section, Record, Item, ids, id-full, words, textsOf, itemOf, records, resolved, recordOf, itemsOf, isShort, beginsIn, readIn}
+use Rattle.items.specs.Families.{family}
+use Rattle.items.specs.Exception.{filled, exception}
+use Rattle.items.specs.Record.{Body, ItemOf, section, Record, Item, words, textsOf, itemOf, records, resolved, recordOf, itemsOf, isShort, beginsIn, readIn}
 
 -- ---- one section among all
 
@@ -60,7 +61,7 @@ pub record ReadAdds (id : ℕ) (s : List ℕ) (x : Item) (r : List ℕ) : Type 0
   pub is : recordIn records (recordOf x) ≡ some value
   pub section : idOf (value .0) ≡ id
   pub same : resolved s value ≡ x
-  pub holds : filled s value ≡ (x .0, recordFrom (x .0) (x .1))
+  pub holds : filled s value ≡ (x .0, family (x .0) .recordOf (x .1))
   pub accepted : why records (recordOf x) s ≡ 0
   pub item : itemIn records (recordOf x) s ++ r ≡ s
 
@@ -70,7 +71,7 @@ one-adds i s x r e h =
     let g = reading.read-adds (whole i) records (whole-among i) s x r e h in
     let o = readable (whole i) .only s x r e in
     let back : section i .resolve s (section i .locate 0 x) ≡ x = ap (λ (l : List ℕ). section i .resolve l (section i .locate 0 x)) (o .1) ∙ section i .located [] r x (o .0 .0) in
-    let held : filledBody s i (section i .locate 0 x) ≡ recordFrom i x = ap (λ (l : List ℕ). filledBody l i (section i .locate 0 x)) (o .1) ∙ read-filled i [] r x (o .0 .0) in
+    let held : family i .filled s (section i .locate 0 x) ≡ family i .recordOf x = ap (λ (l : List ℕ). family i .filled l (section i .locate 0 x)) (o .1) ∙ family i .read-filled [] r x (o .0 .0) in
     record {
       value = (i, section i .locate 0 x);
       is = g .is;
@@ -117,7 +118,7 @@ pub added-back : (w t : List ℕ) (a : Record Span) (r : List ℕ) → recordIn 
 added-back w t a r p y h =
     let s = itemIn records w t ++ r in
     let g = read-adds (idOf (a .0)) s (resolved t a) r (add-reads w t a r p y) h in
-    let e = added-filled (a .0) t (a .1) in
+    let e = family (a .0) .added-filled t (a .1) in
     record { value = g .value; is = g .is; same = g .holds ∙ (λ k. (a .0, e k)) }
 
 -- no item of a section is the beginning of another one

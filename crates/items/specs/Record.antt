@@ -1,56 +1,32 @@
--- Records and items of all sections (document 01, Records; Items to bytes): a record's first word is its section's id. A further section is one more case of
--- `Body`, of `ItemOf` and of `section`. Assumes nothing.
-use mathlib.Core.Path.{_≡_, refl}
+-- Records and items of all sections (document 01, Records; Items to bytes): a record's first word is its section's id. Assumes nothing.
 use mathlib.Core.Bool.{cond}
 use mathlib.Core.Option.{Option, none, some}
-use mathlib.Core.List.{List, [], _∷_}
+use mathlib.Core.List.{List, _∷_}
 use Prim.Native.Nat.{ℕ, _<_}
 use native.Mathlib.Omega.{arith}
-use lib.Dec.{leb, lit<}
+use lib.Dec.{leb}
 use lib.ListN.{length}
 use Rattle.format.specs.Parsed.{Parsed, fail, got, bind, map}
 use Rattle.format.specs.Format.{Format}
 use Rattle.format.specs.Basic.{find, table}
 use Rattle.format.specs.Combine.{dep}
-use Rattle.frames.specs.Frames.{idOf}
+use Rattle.frames.specs.Ids.{idOf, ids, id-small, id-full}
 use Rattle.frames.specs.declared.SectionId.{SectionId}
-use Rattle.frames.specs.declared.SectionId.the-variants.{Types, Imports, Tables, Elements, Data}
 use Rattle.texts.specs.Text.{Kind, lowestOf}
 use Rattle.texts.specs.Judge.{Records, wordsMost}
 use Rattle.texts.specs.Section.{Section}
 use Rattle.texts.specs.declared.Span.{Span}
-use Rattle.groups.specs.RecGroup.{RecGroup, typeSection}
-use Rattle.imports.specs.Forms as imports
-use Rattle.imports.specs.Section.{importSection}
-use Rattle.tables.specs.Table.{Table, tableSection}
-use Rattle.elements.specs.Segment as elements
-use Rattle.elements.specs.Item as flagged
-use Rattle.elements.specs.Section.{elementSection}
-use Rattle.data.specs.Segment.{Segment, dataSection}
+use Rattle.items.specs.Families.{family}
 
--- what a section's records are, over their texts
 abbrev pub Body : SectionId → Type 0 → Type 0
-Body Types S = RecGroup
-Body Imports S = imports.Imports S
-Body Tables S = Table S
-Body Elements S = elements.Segment S
-Body Data S = Segment S
+Body i = family i .Body
 
--- and its items: records over bytes, but for elements
 abbrev pub ItemOf : SectionId → Type 0
-ItemOf Types = RecGroup
-ItemOf Imports = imports.Imports (List ℕ)
-ItemOf Tables = Table (List ℕ)
-ItemOf Elements = flagged.Item (List ℕ)
-ItemOf Data = Segment (List ℕ)
+ItemOf i = family i .Item
 
 -- their words behind the id, their items, and the way from the ones to the others
 abbrev pub section : (i : SectionId) → Section (Body i Span) (ItemOf i)
-section Types = typeSection
-section Imports = importSection
-section Tables = tableSection
-section Elements = elementSection
-section Data = dataSection
+section i = family i .section
 
 abbrev pub Record : Type 0 → Type 0
 Record S = (i : SectionId) × Body i S
@@ -60,17 +36,8 @@ Item = (i : SectionId) × ItemOf i
 
 -- ---- the first word
 
-abbrev pub ids : List SectionId
-ids = Types ∷ Imports ∷ Tables ∷ Elements ∷ Data ∷ []
-
-pub id-small : (i : SectionId) → idOf i < 12
-id-small = elim [ Types ↦ lit< tt | Imports ↦ lit< tt | Tables ↦ lit< tt | Elements ↦ lit< tt | Data ↦ lit< tt ]
-
-pub id-full : (i : SectionId) → find idOf ids (idOf i) ≡ some i
-id-full = elim [ Types ↦ refl | Imports ↦ refl | Tables ↦ refl | Elements ↦ refl | Data ↦ refl ]
-
 abbrev pub idWord : Format SectionId
-idWord = table 12 idOf ids id-small id-full
+idWord = table 256 idOf ids id-small id-full
 
 -- all of a record's words
 unfoldable pub words : Format (Record Span)

@@ -1,5 +1,5 @@
 -- The refusal that judging may start with: one that is above all that a record's texts can draw. Assumes nothing.
-use mathlib.Core.Path.{_≡_, sym, ap, _∙_}
+use mathlib.Core.Path.{_≡_, sym, ap, subst, _∙_}
 use mathlib.Core.Logic.{_↔_, inl, inr, ⊎-elim}
 use mathlib.Core.Bool.{Bool, true}
 use mathlib.Core.Option.{some}
@@ -7,10 +7,13 @@ use mathlib.Core.List.{List}
 use Prim.Native.Nat.{ℕ, _≤_, _<_}
 use native.Mathlib.Omega.{arith}
 use lib.ListN.{getD}
+use Rattle.format.specs.Basic.{find}
 use Rattle.format.specs.Count.{noRefusal}
+use Rattle.format.specs.Leads.{some-is}
 use Rattle.format.specs.Write.{fits-or}
-use Rattle.frames.specs.Frames.{idOf}
-use Rattle.frames.specs.declared.SectionId.the-variants.{Types, Imports, Tables, Elements, Data}
+use Rattle.frames.specs.Ids.{idOf, ids, id-full}
+use Rattle.frames.specs.declared.SectionId.{SectionId}
+use Rattle.frames.specs.declared.SectionId.the-variants.{Imports}
 use Rattle.plain.specs.Plain.{IsPlain}
 use Rattle.texts.specs.Text.{lowestOf, lowest-small}
 use Rattle.texts.specs.Judge.{recordIn, record-inv}
@@ -18,7 +21,7 @@ use Rattle.texts.specs.Entry.{Below}
 use Rattle.texts.specs.Plain.{Names, plain-only}
 use Rattle.texts.specs.declared.Span.{Span}
 use Rattle.imports.specs.Names.{import-names}
-use Rattle.items.specs.Record.{Record, words, textsOf, records}
+use Rattle.items.specs.Record.{Body, section, Record, words, textsOf, records}
 
 -- r: of the record that the words are, its texts draw what is below r, or nothing
 pub record Starts (w t : List ℕ) (r : ℕ) : Type 0 where
@@ -38,11 +41,13 @@ from-none {t = t} =
 -- the texts of a record whose first word is 2 are names
 names-of : (x : Record Span) → idOf (x .0) ≡ 2 → Names (textsOf x)
 unfolding textsOf
-names-of (Types, x) e = absurd (omega arith)
-names-of (Imports, x) e = import-names x
-names-of (Tables, x) e = absurd (omega arith)
-names-of (Elements, x) e = absurd (omega arith)
-names-of (Data, x) e = absurd (omega arith)
+names-of (i, x) e = go i (imports-only i e) x
+  where
+    imports-only : (i : SectionId) → idOf i ≡ 2 → Imports ≡ i
+    imports-only i e = some-is (sym (ap (find idOf ids) e) ∙ id-full i)
+
+    go : (i : SectionId) → Imports ≡ i → (x : Body i Span) → Names (section i .texts x)
+    go i e = subst (λ (i : SectionId). (x : Body i Span) → Names (section i .texts x)) e import-names
 
 first-is : (w : List ℕ) (x : Record Span) → recordIn records w ≡ some x → getD w 0 0 ≡ idOf (x .0)
 unfolding words

@@ -12,7 +12,7 @@ use Rattle.format.specs.Format.{Format}
 use Rattle.format.specs.Lists.{prints, times-only}
 use Rattle.frames.specs.Frames.{word32}
 use Rattle.hex.specs.Words.{wordsIn, words-long}
-use Rattle.hex.specs.Frame.{adds, finishes, word16, wordList, whole, frameOf}
+use Rattle.hex.specs.Frame.{adds, finishTold, word16, wordList, whole, frameOf}
 
 -- ---- the kind
 
@@ -30,7 +30,7 @@ module _ (s : List ℕ) where
   kind-add h e = ap frameOf (drop-cons s 0 0 h) ∙ rw (eq-eqb (getD s 0 0) 1 e)
 
   module _ (h : 0 < length s) (d : getD s 0 0 ≡ 1 → ⊥) where
-    pub kind-finish : getD s 0 0 ≡ 2 → frameOf s ≡ whole finishes (word32 .parse (drop 1 s))
+    pub kind-finish : getD s 0 0 ≡ 2 → frameOf s ≡ whole finishTold (word32 .parse (drop 1 s))
     unfolding frameOf
     kind-finish e = ap frameOf (drop-cons s 0 0 h) ∙ rw (ne-eqb (getD s 0 0) 1 d, eq-eqb (getD s 0 0) 2 e)
 

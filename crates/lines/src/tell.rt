@@ -1,8 +1,8 @@
 // What a frame does to the store, its state and the module's buffer.
 use hex::read_words;
 use hex::word_at;
-use thriftbell::Added;
 use thriftbell::Finished;
+use thriftbell::Given;
 use thriftbell::State;
 use thriftbell::add;
 use thriftbell::finish;
@@ -11,83 +11,76 @@ ghost use mathlib.Core.Option.{some};
 ghost use Prim.Native.Nat.{_≤_};
 ghost use lib.ListN.{length};
 ghost use Rattle.frames.specs.Frames.{word32};
-ghost use Rattle.hex.specs.Frame.{adds, finishes, wordList, whole, frameOf};
+ghost use Rattle.hex.specs.Frame.{adds, finishTold, wordList, whole, frameOf};
 ghost use Rattle.lines.specs.Done.{done, doing, Tells};
 
-// The number of the table, how many bytes the module has or 0, and the room used.
+// The number of the table, how many bytes the module has or 0, and the state.
 pub struct Told {
     pub number: u8,
     pub value: usize,
-    pub used: usize,
+    pub state: State,
 }
 
 // An answer without a module.
-fn plain(number: u8, used: usize) -> Told
-    ensures { λ r. ⌜ r ≡ record { number = number; value = 0; used = used } ⌝ }
+fn plain(number: u8, state: State) -> Told
+    ensures { λ r. ⌜ r ≡ record { number = number; value = 0; state = state } ⌝ }
 {
     Told {
         number: number,
         value: 0,
-        used: used,
+        state: state,
     }
 }
 
 fn add_words(words: &[u32], text: &[u8], state: State, store: &mut [u8]) -> Told
-    ensures { λ r. ⌜ Tells (some (adds (now (words .entry)) (now (text .entry)))) (state .used) (now (store .entry)) (now (store .exit)) r ⌝ }
+    ensures { λ r. ⌜ Tells (some (adds (now (words .entry)) (now (text .entry)))) state (now (store .entry)) (now (store .exit)) r ⌝ }
 {
-    let used = state.used;
-    match add(state, store, words, text) {
-        Added::To(s) => return plain(0, s.used),
-        Added::Refused(k) => return plain(k as u8, used),
-    }
+    let a = add(state, store, words, text);
+    let s = a.state;
+    plain(a.number as u8, s)
 }
 
 // Few bytes hold few words, so that there is room for them.
 fn add_frame(bytes: &[u8], state: State, store: &mut [u8]) -> Told
     requires { ⌜ length (now bytes) ≤ 4096 ⌝ }
-    ensures { λ r. ⌜ Tells (whole adds (wordList .parse (now (bytes .entry)))) (state .used) (now (store .entry)) (now (store .exit)) r ⌝ }
+    ensures { λ r. ⌜ Tells (whole adds (wordList .parse (now (bytes .entry)))) state (now (store .entry)) (now (store .exit)) r ⌝ }
 {
-    let used = state.used;
     if bytes.len() < 2 {
-        return plain(12, used);
+        return plain(12, state);
     }
     let n = bytes[0] as usize + 256 * (bytes[1] as usize);
     let mut list = [0u32; 1024];
     if !read_words(&bytes[2..], n, &mut list) {
-        return plain(12, used);
+        return plain(12, state);
     }
     let from = 2 + 4 * n;
     add_words(&list[0..n], &bytes[from..], state, store)
 }
 
 fn finish_frame(bytes: &[u8], state: State, store: &[u8], buffer: &mut [u8]) -> Told
-    ensures { λ r. ⌜ done r (now (store .entry)) (now (buffer .exit)) ≡ doing (state .used) (now (store .entry)) (now (buffer .entry)) (whole finishes (word32 .parse (now (bytes .entry)))) ⌝ }
+    ensures { λ r. ⌜ done r (now (store .entry)) (now (buffer .exit)) ≡ doing state (now (store .entry)) (now (buffer .entry)) (whole finishTold (word32 .parse (now (bytes .entry)))) ⌝ }
 {
-    let used = state.used;
     if bytes.len() < 4 {
-        return plain(12, used);
+        return plain(12, state);
     }
     let count = word_at(bytes, 0);
-    match finish(state, store, &bytes[4..], count, buffer) {
+    let given = Given { count: count };
+    match finish(state, store, &bytes[4..], given, buffer) {
         Finished::Length(n) => return Told {
             number: 0,
             value: n,
-            used: used,
+            state: state,
         },
-        Finished::Over => return plain(1, used),
-        Finished::Order => return plain(8, used),
-        Finished::NoFrames => return plain(9, used),
-        Finished::Short => return plain(10, used),
+        Finished::Refused(k) => return plain(k as u8, state),
     }
 }
 
 pub fn tell(frame: &[u8], state: State, store: &mut [u8], buffer: &mut [u8]) -> Told
     requires { ⌜ length (now frame) ≤ 4096 ⌝ }
-    ensures { λ r. ⌜ done r (now (store .exit)) (now (buffer .exit)) ≡ doing (state .used) (now (store .entry)) (now (buffer .entry)) (frameOf (now (frame .entry))) ⌝ }
+    ensures { λ r. ⌜ done r (now (store .exit)) (now (buffer .exit)) ≡ doing state (now (store .entry)) (now (buffer .entry)) (frameOf (now (frame .entry))) ⌝ }
 {
-    let used = state.used;
     if frame.len() == 0 {
-        return plain(12, used);
+        return plain(12, state);
     }
     let kind = frame[0];
     if kind == 1 {
@@ -96,5 +89,5 @@ pub fn tell(frame: &[u8], state: State, store: &mut [u8], buffer: &mut [u8]) -> 
     if kind == 2 {
         return finish_frame(&frame[1..], state, store, buffer);
     }
-    plain(12, used)
+    plain(12, state)
 }

@@ -6,7 +6,7 @@ use Prim.Native.Nat.{ℕ, _+_, _<_, _≤_}
 use lib.ListN.{length, drop, getD}
 use borrow.Author.Tests.{ne-eqb}
 use Rattle.format.specs.Read.{drop-more, drop-end}
-use Rattle.frames.specs.Frames.{among, sections}
+use Rattle.frames.specs.Ids.{among, sections}
 use Rattle.sections.specs.Order.{orderIds, allAmong}
 
 pub order-section : (i : ℕ) → (i ≡ 12 → ⊥) → among sections i ≡ among orderIds i

@@ -4,37 +4,35 @@ use mathlib.Core.Bool.{Bool, true, false, cond}
 use Prim.Native.Nat.{ℕ, _+_, _≤_, _<_, _^_}
 use mathlib.Core.List.{List}
 use native.Mathlib.Omega.{arith}
-use lib.Dec.{eqb, ltb}
+use lib.Dec.{eqb}
 use lib.IntN.{pos}
 use lib.ListN.{length, take, length-append, length-take}
-use borrow.Author.Tests.{ltb-false}
-use Rattle.format.specs.Answers.{neither}
 use Rattle.leb128.specs.Leb.{unsigned, uleb}
 use Rattle.leb128.specs.LebLaws.{bytes-at-most}
-use Rattle.frames.specs.Frames.{framesIn, framesOf, held}
-use Rattle.frames.specs.Append.{storeMost, isOver}
+use Rattle.frames.specs.Frames.{framesOf, held}
+use Rattle.frames.specs.Builder.{framesIn, storeMost, isOver, within}
+use Rattle.frames.specs.declared.State.{State}
 use Rattle.frames.specs.Tally.{itemsOf, itemBytes, items-within}
 use Rattle.sections.specs.Section.{vector, contentsOf, dataCount}
+use Rattle.sections.specs.declared.Given.{Given}
 
 -- a number of 32 bits takes at most five bytes
 five : (n : ℕ) → n < 2 ^ 32 → length (uleb n) ≤ 5
 five n h = bytes-at-most 4 unsigned (pos n) (omega arith)
 
-module _ (used : ℕ) (store : List ℕ) (h : isOver used store ≡ false) (i : ℕ) where
-  few : length (itemsOf i (framesOf (take used store))) + length (itemBytes i (take used store)) ≤ storeMost
-  few =
-      let (a, _) = neither (ltb storeMost (length store)) (ltb (length store) used) h in
-      omega (arith, ltb-false storeMost (length store) a, items-within i (take used store), length-take used store)
+module _ (state : State) (store : List ℕ) (h : isOver state store ≡ false) (i : ℕ) where
+  few : length (itemsOf i (framesOf (take (state .used) store))) + length (itemBytes i (take (state .used) store)) ≤ storeMost
+  few = omega (arith, within state store h .most, items-within i (take (state .used) store), length-take (state .used) store)
 
-  pub count-fits : length (itemsOf i (held (framesIn used store))) < 2 ^ 32
+  pub count-fits : length (itemsOf i (held (framesIn state store))) < 2 ^ 32
   count-fits = omega (arith, few)
 
-  pub size-fits : (count : ℕ) → count < 2 ^ 32 → length (contentsOf count (held (framesIn used store)) i) < 2 ^ 32
-  size-fits count k = go (eqb i dataCount)
+  pub size-fits : (given : Given) → given .count < 2 ^ 32 → length (contentsOf given (held (framesIn state store)) i) < 2 ^ 32
+  size-fits given k = go (eqb i dataCount)
     where
-      own : length (vector (itemsOf i (held (framesIn used store)))) < 2 ^ 32
-      own = omega (arith, few, five (length (itemsOf i (framesOf (take used store)))) count-fits, length-append (uleb (length (itemsOf i (framesOf (take used store))))) (itemBytes i (take used store)))
+      own : length (vector (itemsOf i (held (framesIn state store)))) < 2 ^ 32
+      own = omega (arith, few, five (length (itemsOf i (framesOf (take (state .used) store)))) count-fits, length-append (uleb (length (itemsOf i (framesOf (take (state .used) store))))) (itemBytes i (take (state .used) store)))
 
-      go : (t : Bool) → length (cond t (uleb count) (vector (itemsOf i (held (framesIn used store))))) < 2 ^ 32
-      go true = omega (arith, five count k)
+      go : (t : Bool) → length (cond t (uleb (given .count)) (vector (itemsOf i (held (framesIn state store))))) < 2 ^ 32
+      go true = omega (arith, five (given .count) k)
       go false = own

@@ -1,10 +1,11 @@
-// Finishing: the module of a store's frames, by an order list and a data count.
+// Finishing: the module of a store's frames, by an order list and the numbers given with it.
 mod order;
 
 use format::Written;
-use frames::STORE_MOST;
 use frames::State;
+use frames::is_over;
 use order::is_order;
+pub use sections::Given;
 use sections::put_sections;
 use sections::sections_len;
 ghost use mathlib.Core.Path.{_≡_};
@@ -14,7 +15,8 @@ ghost use lib.ListN.{length};
 ghost use Rattle.format.specs.Runs.{run};
 ghost use Rattle.format.specs.Write.{Writes};
 ghost use Rattle.frames.specs.Frames.{frame};
-ghost use Rattle.frames.specs.Append.{storeMost};
+ghost use Rattle.frames.specs.Builder.{storeMost};
+ghost use Rattle.sections.specs.Section.{ending};
 ghost use Rattle.sections.specs.Order.{orderMost, orderIds, allAmong};
 ghost use Rattle.module.specs.Module.{header};
 ghost use Rattle.module.specs.Finish.{outcome, building, finishing};
@@ -29,13 +31,10 @@ impl Module {
     pub const HEADER: [u8; 8] = [0x00, 0x61, 0x73, 0x6D, 0x01, 0x00, 0x00, 0x00];
 }
 
-// What finishing answers: how many bytes the module has, or why it was refused, and then nothing was changed.
+// What finishing answers: how many bytes the module has, or a number of the table, and then nothing was changed.
 pub enum Finished {
     Length(usize),
-    Over,
-    Order,
-    NoFrames,
-    Short,
+    Refused(u32),
 }
 
 // Every module begins with it, and one of no sections is it.
@@ -45,38 +44,35 @@ pub fn put_header(out: &mut [u8]) -> Written
     format::copy(&Module::HEADER, out)
 }
 
-fn build(frames: &[u8], order: &[u8], count: u32, out: &mut [u8]) -> Finished
+fn build(frames: &[u8], order: &[u8], given: Given, out: &mut [u8]) -> Finished
     requires { ⌜ allAmong orderIds (now order) ≡ true ⌝ }
     requires { ⌜ length (now order) ≤ orderMost ⌝ }
     requires { ⌜ length (now frames) ≤ storeMost ⌝ }
-    ensures { λ r. ⌜ outcome r (now (out .exit)) ≡ building (now (order .entry)) count (run frame (now (frames .entry))) (now (out .entry)) ⌝ }
+    ensures { λ r. ⌜ outcome r (now (out .exit)) ≡ building (ending (now (order .entry)) given) (run frame (now (frames .entry))) (now (out .entry)) ⌝ }
 {
     let t = frames::tally(frames);
     if !t.are {
-        return Finished::NoFrames;
+        return Finished::Refused(9);
     }
-    if out.len() < 8 + sections_len(order, t, count) {
-        return Finished::Short;
+    if out.len() < 8 + sections_len(order, t, given) {
+        return Finished::Refused(10);
     }
     put_header(out);
-    Finished::Length(8 + put_sections(frames, order, t, count, &mut out[8..]))
+    Finished::Length(8 + put_sections(frames, order, t, given, &mut out[8..]))
 }
 
-pub fn finish(state: State, store: &[u8], order: &[u8], count: u32, out: &mut [u8]) -> Finished
-    ensures { λ r. ⌜ outcome r (now (out .exit)) ≡ finishing (state .used) (now (store .entry)) (now (order .entry)) count (now (out .entry)) ⌝ }
+pub fn finish(state: State, store: &[u8], order: &[u8], given: Given, out: &mut [u8]) -> Finished
+    ensures { λ r. ⌜ outcome r (now (out .exit)) ≡ finishing state (now (store .entry)) (ending (now (order .entry)) given) (now (out .entry)) ⌝ }
 {
-    let used = state.used;
-    if STORE_MOST < store.len() {
-        return Finished::Over;
-    }
-    if store.len() < used {
-        return Finished::Over;
+    if is_over(state, store) {
+        return Finished::Refused(1);
     }
     if ORDER_MOST < order.len() {
-        return Finished::Order;
+        return Finished::Refused(8);
     }
     if !is_order(order) {
-        return Finished::Order;
+        return Finished::Refused(8);
     }
-    build(&store[0..used], order, count, out)
+    let used = state.used;
+    build(&store[0..used], order, given, out)
 }

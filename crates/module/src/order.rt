@@ -1,6 +1,6 @@
 // The order list of a finish.
 ghost use mathlib.Core.Path.{_≡_};
-ghost use Rattle.frames.specs.Frames.{among};
+ghost use Rattle.frames.specs.Ids.{among};
 ghost use Rattle.sections.specs.Order.{orderIds, allAmong};
 
 fn is_order_id(id: u8) -> bool

@@ -75,7 +75,7 @@ waits-more at a xs h =
 
 module _ (k : Kept) (r m s : Run) (line store buffer out store' buffer' out' : List ℕ) (h : Shows k r line store buffer out) (g : Roomy r out m)
     (l : length buffer ≤ 32768) (w : Replied m (answerTo m (take (r .n - 0) (drop 0 line)) store buffer out) out s store' buffer' out') where
-  did : doing (m .used) store buffer (lineOf (take (r .n - 0) (drop 0 line))) ≡ answerOf k
+  did : doing (m .state) store buffer (lineOf (take (r .n - 0) (drop 0 line))) ≡ answerOf k
   did =
       let z : r .n - 0 ≡ r .n = omega arith in
       let f : lineOf (take (r .n - 0) (drop 0 line)) ≡ lineOf (k .line) = rw z (ap lineOf (h .front) ∙ front-tells (k .line)) in
@@ -83,7 +83,7 @@ module _ (k : Kept) (r m s : Run) (line store buffer out store' buffer' out' : L
 
   said : answerTo m (take (r .n - 0) (drop 0 line)) store buffer out ≡ answered (drop (m .at) out) (answerOf k)
   said =
-      sym (answers-line (m .used) store buffer (drop (m .at) out) (take (r .n - 0) (drop 0 line)) (omega (arith, g .room, length-drop (m .at) out)))
+      sym (answers-line (m .state) store buffer (drop (m .at) out) (take (r .n - 0) (drop 0 line)) (omega (arith, g .room, length-drop (m .at) out)))
       ∙ ap (answered (drop (m .at) out)) did
 
   pub shows-end : Shows (ended k) s line store' buffer' out'
@@ -94,7 +94,7 @@ module _ (k : Kept) (r m s : Run) (line store buffer out store' buffer' out' : L
       let ys : out' ≡ set (take (m .at) out ++ over a (drop (m .at) out)) (m .at + length a) 0x0A =
       w .answers ∙ (λ i. set (take (m .at) out ++ said i .out) (m .at + said i .value) 0x0A) in
       record {
-        state = ap (λ (r : Run). r .used) (w .run) ∙ ap (λ (o : Outcome). o .used) said;
+        state = ap (λ (r : Run). r .state) (w .run) ∙ ap (λ (o : Outcome). o .state) said;
         stored = w .store ∙ ap (λ (o : Outcome). o .store) said;
         built = w .buffer ∙ ap (λ (o : Outcome). o .buffer) said;
         front = ap (λ (r : Run). take (r .n) line) (w .run) ∙ sym (take-nil keptMost);

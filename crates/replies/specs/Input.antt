@@ -16,25 +16,27 @@ use Rattle.hex.specs.Hex.{charOf, hexByte, hex-some}
 use Rattle.hex.specs.Frame.{Frame}
 use Rattle.hex.specs.Line.{lineOf}
 use Rattle.hex.specs.Held.{too-long, empty}
+use Rattle.frames.specs.Builder as builder
+use Rattle.frames.specs.declared.State.{State}
 use Rattle.lines.specs.Done.{Done, doing}
 use Rattle.lines.specs.Answer.{answerLine}
 
--- the room used, the store and the module's buffer; the line that is not at its end; and all that was said
+-- the state, the store and the module's buffer; the line that is not at its end; and all that was said
 pub record Kept : Type 0 where
-  pub used : ℕ
+  pub state : State
   pub store : List ℕ
   pub buffer : List ℕ
   pub line : List ℕ
   pub said : List ℕ
 
 abbrev pub answerOf : Kept → Done
-answerOf k = doing (k .used) (k .store) (k .buffer) (lineOf (k .line))
+answerOf k = doing (k .state) (k .store) (k .buffer) (lineOf (k .line))
 
 -- a line that is at its end is answered, by one line
 abbrev pub ended : Kept → Kept
 ended k =
     record {
-      used = answerOf k .used;
+      state = answerOf k .state;
       store = answerOf k .store;
       buffer = answerOf k .buffer;
       line = [];
@@ -43,7 +45,7 @@ ended k =
 
 -- a part of a line
 abbrev pub more : Kept → List ℕ → Kept
-more k part = record { used = k .used; store = k .store; buffer = k .buffer; line = k .line ++ part; said = k .said }
+more k part = record { state = k .state; store = k .store; buffer = k .buffer; line = k .line ++ part; said = k .said }
 
 -- a character, and some
 unfoldable pub heard : Kept → ℕ → Kept
@@ -79,10 +81,10 @@ unfolding closed
 closed-line k h = rw (ne-eqb (length (k .line)) 0 h)
 
 pub more-none : (k : Kept) → k ≡ more k []
-more-none k = λ i. record { used = k .used; store = k .store; buffer = k .buffer; line = sym (append-nil (k .line)) i; said = k .said }
+more-none k = λ i. record { state = k .state; store = k .store; buffer = k .buffer; line = sym (append-nil (k .line)) i; said = k .said }
 
 pub more-more : (k : Kept) (a b : List ℕ) → more (more k a) b ≡ more k (a ++ b)
-more-more k a b = λ i. record { used = k .used; store = k .store; buffer = k .buffer; line = append-assoc (k .line) a b i; said = k .said }
+more-more k a b = λ i. record { state = k .state; store = k .store; buffer = k .buffer; line = append-assoc (k .line) a b i; said = k .said }
 
 -- ---- a line that is too long is known by its first 8,193 characters
 
@@ -104,7 +106,7 @@ front-more (suc n) (x ∷ l) p = ap (λ (r : List ℕ). x ∷ r) (front-more n l
 
 -- the store is fresh
 abbrev pub fresh : List ℕ → List ℕ → Kept
-fresh store buffer = record { used = 0; store = store; buffer = buffer; line = []; said = [] }
+fresh store buffer = record { state = builder.fresh; store = store; buffer = buffer; line = []; said = [] }
 
 abbrev pub says : List ℕ → List ℕ → List ℕ → List ℕ
 says store buffer input = closed (hears (fresh store buffer) input) .said
@@ -117,4 +119,4 @@ no-line store buffer = refl
 pub empty-line : (store buffer : List ℕ) → says store buffer (0x0A ∷ []) ≡ 0x30 ∷ 0x43 ∷ 0x0A ∷ []
 unfolding closed heard charOf
 empty-line store buffer =
-    ap (λ (f : Option Frame). answerLine (doing 0 store buffer f) ++ (0x0A ∷ [])) (empty [] (omega arith) [] (run-back hexByte hex-some [] tt) refl)
+    ap (λ (f : Option Frame). answerLine (doing builder.fresh store buffer f) ++ (0x0A ∷ [])) (empty [] (omega arith) [] (run-back hexByte hex-some [] tt) refl)

@@ -22,7 +22,7 @@ pub record Ready (r : Run) (line buffer out : List ℕ) : Type 0 where
 
 -- the memory shows what is kept: the front of the line, and of all that was said, what was not yet handed on to be written
 pub record Shows (k : Kept) (r : Run) (line store buffer out : List ℕ) : Type 0 where
-  pub state : r .used ≡ k .used
+  pub state : r .state ≡ k .state
   pub stored : store ≡ k .store
   pub built : buffer ≡ k .buffer
   pub front : take (r .n) line ≡ take keptMost (k .line)
@@ -31,25 +31,25 @@ pub record Shows (k : Kept) (r : Run) (line store buffer out : List ℕ) : Type 
 
 -- a part of a line stands behind what was gathered, as far as there is room
 pub record Gathered (r : Run) (part line line' : List ℕ) (s : Run) : Type 0 where
-  pub state : s .used ≡ r .used
+  pub state : s .state ≡ r .state
   pub waiting : s .at ≡ r .at
   pub gathered : s .n ≤ length line'
   pub front : take (s .n) line' ≡ take (length line) (take (r .n) line ++ part)
 
 -- there is room for any answer behind what waits
 pub record Roomy (r : Run) (out : List ℕ) (s : Run) : Type 0 where
-  pub state : s .used ≡ r .used
+  pub state : s .state ≡ r .state
   pub room : s .at + longest ≤ length out
   pub handed : List ℕ
   pub waits : handed ++ take (s .at) out ≡ take (r .at) out
 
 -- the line's answer, into what is free of the output
 abbrev pub answerTo : Run → List ℕ → List ℕ → List ℕ → List ℕ → Outcome
-answerTo r line store buffer out = answering (r .used) store buffer (drop (r .at) out) line
+answerTo r line store buffer out = answering (r .state) store buffer (drop (r .at) out) line
 
 -- the answer o and its line feed stand behind what waits, and wait too
 pub record Replied (r : Run) (o : Outcome) (out : List ℕ) (s : Run) (store' buffer' out' : List ℕ) : Type 0 where
-  pub run : s ≡ record { used = o .used; n = 0; at = r .at + o .value + 1; ok = r .ok }
+  pub run : s ≡ record { state = o .state; n = 0; at = r .at + o .value + 1; ok = r .ok }
   pub store : store' ≡ o .store
   pub buffer : buffer' ≡ o .buffer
   pub answers : out' ≡ set (take (r .at) out ++ o .out) (r .at + o .value) 0x0A

@@ -13,8 +13,9 @@ fn gather(part: &[u8], r: Run, line: &mut [u8]) -> Run
     let n = r.n;
     let m = format::least(part.len(), line.len() - n);
     format::copy(&part[0..m], &mut line[n..]);
+    let state = r.state;
     Run {
-        used: r.used,
+        state: state,
         n: n + m,
         at: r.at,
         ok: r.ok,

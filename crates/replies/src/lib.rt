@@ -4,10 +4,11 @@ mod reply;
 
 pub use input::end_input;
 pub use input::take_piece;
+use thriftbell::State;
 
-// The room used; how many characters of a line are gathered; how many bytes wait to be written; and whether all went well.
+// The state; how many characters of a line are gathered; how many bytes wait to be written; and whether all went well.
 pub struct Run {
-    pub used: usize,
+    pub state: State,
     pub n: usize,
     pub at: usize,
     pub ok: bool,

@@ -1,9 +1,8 @@
 // A line's answer and its line feed, behind the answers that wait to be written.
 use crate::Run;
 use libc::STDOUT_FILENO;
-use lines::Reply;
 use lines::answer;
-use thriftbell::State;
+use thriftbell::Written;
 ghost use Prim.Native.Nat.{_+_, _*_, _≤_};
 ghost use lib.ListN.{length};
 ghost use Rattle.replies.specs.Run.{longest, Ready, Roomy, answerTo, Replied, Ends};
@@ -21,8 +20,9 @@ fn make_room(r: Run, out: &[u8]) -> Run
         return r;
     }
     let written = io::write_all(STDOUT_FILENO, &out[0..at]);
+    let state = r.state;
     Run {
-        used: r.used,
+        state: state,
         n: r.n,
         at: 0,
         ok: written,
@@ -34,14 +34,17 @@ fn reply(line: &[u8], r: Run, store: &mut [u8], buffer: &mut [u8], out: &mut [u8
     ensures { λ s. ⌜ Replied r (answerTo r (now (line .entry)) (now (store .entry)) (now (buffer .entry)) (now (out .entry))) (now (out .entry)) s (now (store .exit)) (now (buffer .exit)) (now (out .exit)) ⌝ }
 {
     let at = r.at;
-    let used = r.used;
-    let Reply::Line(s, n) = answer(line, State { used: used }, store, buffer, &mut out[at..]) else {
+    let state = r.state;
+    let a = answer(line, state, store, buffer, &mut out[at..]);
+    let state = a.state;
+    let told = a.line;
+    let Written::Length(n) = told else {
         return r;
     };
     let end = at + n;
     out[end] = b'\n';
     Run {
-        used: s.used,
+        state: state,
         n: 0,
         at: end + 1,
         ok: r.ok,

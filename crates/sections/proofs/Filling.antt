@@ -20,6 +20,7 @@ use Rattle.frames.specs.Tally.{itemsOf, joined, itemBytes, tallyOf, total-at}
 use Rattle.frames.specs.declared.FrameAt.the-variants.{No}
 use Rattle.frames.proofs.Placing.{Begins}
 use Rattle.frames.proofs.Walking.{Walked, walk-none, walk-more, walk-stop, walk-done, items-other, begins-below}
+use Rattle.sections.specs.declared.Given.{Given}
 use Rattle.sections.specs.Section.{sectionOf}
 use Rattle.sections.specs.Order.{orderIds, allAmong, Away, Once}
 use Rattle.sections.specs.Laid.{Plan, planOf, roomOf, Laid, Headed}
@@ -30,40 +31,40 @@ use Rattle.sections.proofs.Laying.{Spot, seek, laid-other, laid-all, wi
 
 -- ---- the plan of the frames that bytes are
 
-abbrev pub planIn : List ℕ → ℕ → Plan
-planIn s count = planOf (tallyOf (run frame s) .counts) (tallyOf (run frame s) .totals) count
+abbrev pub planIn : List ℕ → Given → Plan
+planIn s given = planOf (tallyOf (run frame s) .counts) (tallyOf (run frame s) .totals) given
 
-module _ (s : List ℕ) (count : ℕ) where
+module _ (s : List ℕ) (given : Given) where
   -- what it says of a section
   abbrev Planned : ℕ → Type 0
-  Planned i = (planIn s count .total i ≡ length (itemBytes i s)) × (planIn s count .head i ++ itemBytes i s ≡ sectionOf count (framesOf s) i)
+  Planned i = (planIn s given .total i ≡ length (itemBytes i s)) × (planIn s given .head i ++ itemBytes i s ≡ sectionOf given (framesOf s) i)
 
   planned : (i : ℕ) → i < 16 → Planned i
   planned i h =
       let e = total-at s i h in
-      (e, sym (section-parts i _ (itemBytes i s) (planIn s count .total i) e) ∙ section-is s i h refl count refl)
+      (e, sym (section-parts i _ (itemBytes i s) (planIn s given .total i) e) ∙ section-is s i h refl given refl)
 
-  planned-long : (order : List ℕ) → All Planned order → roomOf (planIn s count) order ≡ length (prints (sectionOf count (framesOf s)) order)
+  planned-long : (order : List ℕ) → All Planned order → roomOf (planIn s given) order ≡ length (prints (sectionOf given (framesOf s)) order)
   planned-long [] a = refl
   planned-long (i ∷ order) a =
-      let f = sectionOf count (framesOf s) in
-      let n : length (f i) ≡ length (planIn s count .head i) + length (itemBytes i s) = ap length (sym (a .0 .1)) ∙ length-append (planIn s count .head i) (itemBytes i s) in
+      let f = sectionOf given (framesOf s) in
+      let n : length (f i) ≡ length (planIn s given .head i) + length (itemBytes i s) = ap length (sym (a .0 .1)) ∙ length-append (planIn s given .head i) (itemBytes i s) in
       omega (arith, a .0 .0, planned-long order (a .1), length-append (f i) (prints f order))
 
-  pub plan-long : (order : List ℕ) → allAmong orderIds order ≡ true → roomOf (planIn s count) order ≡ length (prints (sectionOf count (framesOf s)) order)
+  pub plan-long : (order : List ℕ) → allAmong orderIds order ≡ true → roomOf (planIn s given) order ≡ length (prints (sectionOf given (framesOf s)) order)
   plan-long order e = planned-long order (listed-all Planned planned order e)
 
 -- ---- the walk
 
 -- the items of the frames before place `at` of s are written to their sections, over the heads, which left xs
-pub record Filling (s order : List ℕ) (count n : ℕ) (xs ys places : List ℕ) (at : ℕ) : Type 0 where
+pub record Filling (s order : List ℕ) (given : Given) (n : ℕ) (xs ys places : List ℕ) (at : ℕ) : Type 0 where
   pub all : List Frame
   pub is : run frame s ≡ some all
   pub once : Once order
   pub past : List Frame
   pub walk : Walked s past at
   pub bytes : List ℕ
-  pub laid : Laid (planIn s count) (λ i. joined (itemsOf i past)) places 0 order bytes
+  pub laid : Laid (planIn s given) (λ i. joined (itemsOf i past)) places 0 order bytes
   pub done : Writes bytes xs ys (Length n)
   pub few : length places ≡ 16
   pub others : (i : ℕ) → i < 16 → Away i order → getD places i 0 ≡ 0
@@ -75,13 +76,13 @@ writes-same {b} {xs} {ys} {n} w =
     let d : drop (length b) ys ≡ drop (length b) xs = ap (drop (length b)) e ∙ drop-at b (drop (length b) xs) (length b) refl in
     writes (omega (arith, ap length e, length-append b (drop (length b) xs))) k (e ∙ ap (λ (l : List ℕ). b ++ l) (sym d))
 
-pub filling-none : {s order : List ℕ} {count n : ℕ} {xs ys places : List ℕ} → noFrames (run frame s) ≡ false → Once order → Headed (planIn s count) order xs ys places n
-    → Filling s order count n ys ys places 0
+pub filling-none : {s order : List ℕ} {given : Given} {n : ℕ} {xs ys places : List ℕ} → noFrames (run frame s) ≡ false → Once order → Headed (planIn s given) order xs ys places n
+    → Filling s order given n ys ys places 0
 filling-none {s} e o h =
     let (all, q) = some-of (run frame s) e in
     record { all = all; is = q; once = o; past = []; walk = walk-none s; bytes = h .bytes; laid = h .laid; done = writes-same (h .done); few = h .few; others = h .others }
 
-module _ {s order : List ℕ} {count n : ℕ} {xs ys places : List ℕ} {at : ℕ} (f : Filling s order count n xs ys places at) where
+module _ {s order : List ℕ} {given : Given} {n : ℕ} {xs ys places : List ℕ} {at : ℕ} (f : Filling s order given n xs ys places at) where
   pub filling-stop : at < length s → No ≡ frameAt s at → ⊥
   filling-stop h e = Option·none-ne-some (f .all) (sym (walk-stop (f .walk) h e) ∙ f .is)
 
@@ -106,21 +107,21 @@ module _ {s order : List ℕ} {count n : ℕ} {xs ys places : List ℕ} {at : �
     long = omega (arith, b .long)
 
     abbrev Found : Type 0
-    Found = Spot (planIn s count) i item (λ j. joined (itemsOf j (f .past))) (λ j. joined (itemsOf j next)) places moved 0 order (f .bytes)
+    Found = Spot (planIn s given) i item (λ j. joined (itemsOf j (f .past))) (λ j. joined (itemsOf j next)) places moved 0 order (f .bytes)
 
     found : Away i order ⊎ Found
     found =
         let below = begins-below b in
         let few = f .few in
         let to = getD places i 0 in
-        seek (planIn s count) i _ _ places moved (λ j d. (kept j d, sym (getD-set-other places i j (to + (end - (at + 5))) 0 d))) (λ j. omega arith) item
+        seek (planIn s given) i _ _ places moved (λ j d. (kept j d, sym (getD-set-other places i j (to + (end - (at + 5))) 0 d))) (λ j. omega arith) item
         (joined-one i (f .past) (b .here) (b .is)) (getD-set-same places i (to + (end - (at + 5))) 0 (omega arith) ∙ ap (λ (k : ℕ). to + k) (sym long)) (f .once) (f .laid)
 
     -- of a section that the order list does not have
-    pub filling-other : getD places i 0 ≤ 0 → Filling s order count n xs ys places end
+    pub filling-other : getD places i 0 ≤ 0 → Filling s order given n xs ys places end
     filling-other z = ⊎-elim away (λ p. absurd (omega (arith, p .lead, p .place))) found
       where
-        away : Away i order → Filling s order count n xs ys places end
+        away : Away i order → Filling s order given n xs ys places end
         away a =
             record {
               all = f .all;
@@ -129,7 +130,7 @@ module _ {s order : List ℕ} {count n : ℕ} {xs ys places : List ℕ} {at : �
               past = next;
               walk = walk;
               bytes = f .bytes;
-              laid = laid-other (planIn s count) i _ _ places places (λ j d. (kept j d, refl)) a (f .laid);
+              laid = laid-other (planIn s given) i _ _ places places (λ j d. (kept j d, refl)) a (f .laid);
               done = f .done;
               few = f .few;
               others = f .others;
@@ -159,7 +160,7 @@ module _ {s order : List ℕ} {count n : ℕ} {xs ys places : List ℕ} {at : �
       filling-room = within-room (f .done) (spot .front) (spot .gap) (spot .rest) (spot .is) (spot .place ∙ omega arith) item room
 
       pub filling-item : {r : Written} {zs : List ℕ} → Writes (take (end - (at + 5)) (drop (at + 5) s)) (midOf (getD places i 0) (length ys - getD places i 0) ys) zs r
-          → Filling s order count n xs (putMid (getD places i 0) (length ys - getD places i 0) ys zs) moved end
+          → Filling s order given n xs (putMid (getD places i 0) (length ys - getD places i 0) ys zs) moved end
       filling-item w =
           let p = spot in
           record {
@@ -176,9 +177,9 @@ module _ {s order : List ℕ} {count n : ℕ} {xs ys places : List ℕ} {at : �
           }
 
   -- all items are written
-  pub filling-done : length s ≤ at → allAmong orderIds order ≡ true → {zs places' : List ℕ} → Headed (planIn s count) order zs xs places' n
-      → Writes (prints (sectionOf count (framesOf s)) order) zs ys (Length n)
+  pub filling-done : length s ≤ at → allAmong orderIds order ≡ true → {zs places' : List ℕ} → Headed (planIn s given) order zs xs places' n
+      → Writes (prints (sectionOf given (framesOf s)) order) zs ys (Length n)
   filling-done h e g =
       let all : f .past ≡ framesOf s = sym (ap held (walk-done (f .walk) h)) in
-      let laid : Laid (planIn s count) (λ i. itemBytes i s) places 0 order (f .bytes) = subst (λ (fs : List Frame). Laid (planIn s count) (λ i. joined (itemsOf i fs)) places 0 order (f .bytes)) all (f .laid) in
-      writes-as (laid-all (sectionOf count (framesOf s)) laid (listed-all (Planned s count) (planned s count) order e)) (writes-again (g .done) (f .done))
+      let laid : Laid (planIn s given) (λ i. itemBytes i s) places 0 order (f .bytes) = subst (λ (fs : List Frame). Laid (planIn s given) (λ i. joined (itemsOf i fs)) places 0 order (f .bytes)) all (f .laid) in
+      writes-as (laid-all (sectionOf given (framesOf s)) laid (listed-all (Planned s given) (planned s given) order e)) (writes-again (g .done) (f .done))

@@ -15,10 +15,12 @@ use Rattle.format.specs.Runs.{run}
 use Rattle.format.specs.Write.{Writes, Room, writes, writes-as, writes-then, room-then}
 use Rattle.format.specs.declared.Written.the-variants.{Length}
 use Rattle.leb128.specs.Leb.{uleb}
-use Rattle.frames.specs.Frames.{frame, framesOf, frames-ok, sections, among, among-each}
-use Rattle.frames.specs.Append.{storeMost}
+use Rattle.frames.specs.Frames.{frame, framesOf, frames-ok}
+use Rattle.frames.specs.Ids.{sections, among, among-each}
+use Rattle.frames.specs.Builder.{storeMost}
 use Rattle.frames.specs.Tally.{itemsOf, itemBytes, tallyOf, no-items, count-at, total-at}
-use Rattle.sections.specs.Section.{section, sectionOf, dataCount}
+use Rattle.sections.specs.declared.Given.{Given}
+use Rattle.sections.specs.Section.{section, sectionOf, saidOf, dataCount}
 use Rattle.sections.specs.Order.{orderIds, allAmong}
 
 -- ---- an id of an order list
@@ -43,14 +45,14 @@ listed-all P f (i ∷ order) e = let (a, b) = both (among orderIds i) (allAmong 
 
 -- ---- what a section says
 
--- the count that it says: how many items, or the data count
-abbrev said : ℕ → List ℕ → ℕ → ℕ
-said count s i = cond (eqb i dataCount) count (length (itemsOf i (framesOf s)))
+-- the count that it says
+abbrev said : Given → List ℕ → ℕ → ℕ
+said given s i = saidOf given i (length (itemsOf i (framesOf s)))
 
-pub section-said : (count : ℕ) (s : List ℕ) (i : ℕ) → sectionOf count (framesOf s) i ≡ section i (uleb (said count s i) ++ itemBytes i s)
-section-said count s i = go (eqb i dataCount) refl
+pub section-said : (given : Given) (s : List ℕ) (i : ℕ) → sectionOf given (framesOf s) i ≡ section i (uleb (said given s i) ++ itemBytes i s)
+section-said given s i = go (eqb i dataCount) refl
   where
-    go : (t : Bool) → eqb i dataCount ≡ t → sectionOf count (framesOf s) i ≡ section i (uleb (said count s i) ++ itemBytes i s)
+    go : (t : Bool) → eqb i dataCount ≡ t → sectionOf given (framesOf s) i ≡ section i (uleb (said given s i) ++ itemBytes i s)
     go true e =
         let z : itemsOf i (framesOf s) ≡ [] = no-items i (ap (among sections) (eqb-true i dataCount e)) (framesOf s) (frames-ok s) in
         rw (e, z, append-nil)
@@ -61,11 +63,11 @@ module _ (s : List ℕ) (i : ℕ) (h : i < 16) where
   pub total-is : {totals : List ℕ} → totals ≡ tallyOf (run frame s) .totals → getD totals i 0 ≡ length (itemBytes i s)
   total-is e = ap (λ (l : List ℕ). getD l i 0) e ∙ total-at s i h
 
-  pub section-is : {counts : List ℕ} → counts ≡ tallyOf (run frame s) .counts → (count : ℕ) {c : ℕ} → c ≡ cond (eqb i dataCount) count (getD counts i 0)
-      → section i (uleb c ++ itemBytes i s) ≡ sectionOf count (framesOf s) i
-  section-is e count {c} d =
-      let w : c ≡ said count s i = d ∙ ap (λ (x : ℕ). cond (eqb i dataCount) count x) (ap (λ (l : List ℕ). getD l i 0) e ∙ count-at s i h) in
-      ap (λ (x : ℕ). section i (uleb x ++ itemBytes i s)) w ∙ sym (section-said count s i)
+  pub section-is : {counts : List ℕ} → counts ≡ tallyOf (run frame s) .counts → (given : Given) {c : ℕ} → c ≡ saidOf given i (getD counts i 0)
+      → section i (uleb c ++ itemBytes i s) ≡ sectionOf given (framesOf s) i
+  section-is e given {c} d =
+      let w : c ≡ said given s i = d ∙ ap (saidOf given i) (ap (λ (l : List ℕ). getD l i 0) e ∙ count-at s i h) in
+      ap (λ (x : ℕ). section i (uleb x ++ itemBytes i s)) w ∙ sym (section-said given s i)
 
 -- ---- one section more
 
@@ -82,51 +84,51 @@ module _ (f : ℕ → List ℕ) (order : List ℕ) (j : ℕ) (h : j < length ord
 -- ---- their length
 
 -- the first j of them have n bytes
-pub record Measured (order : List ℕ) (count : ℕ) (counts totals : List ℕ) (n j : ℕ) : Type 0 where
+pub record Measured (order : List ℕ) (given : Given) (counts totals : List ℕ) (n j : ℕ) : Type 0 where
   pub sum : (s : List ℕ) → counts ≡ tallyOf (run frame s) .counts → totals ≡ tallyOf (run frame s) .totals
-      → n ≡ length (prints (sectionOf count (framesOf s)) (take j order))
+      → n ≡ length (prints (sectionOf given (framesOf s)) (take j order))
   pub few : n ≤ j * (storeMost + 21)
 
-pub measured-none : (order : List ℕ) (count : ℕ) (counts totals : List ℕ) → Measured order count counts totals 0 0
-measured-none order count counts totals = record { sum = λ s p q. refl; few = omega arith }
+pub measured-none : (order : List ℕ) (given : Given) (counts totals : List ℕ) → Measured order given counts totals 0 0
+measured-none order given counts totals = record { sum = λ s p q. refl; few = omega arith }
 
-module _ {order : List ℕ} {count : ℕ} {counts totals : List ℕ} {n j : ℕ} (m : Measured order count counts totals n j) where
-  pub measured-more : (h : j < length order) (a : allAmong orderIds order ≡ true) {c r : ℕ} → c ≡ cond (eqb (getD order j 0) dataCount) count (getD counts (getD order j 0) 0)
+module _ {order : List ℕ} {given : Given} {counts totals : List ℕ} {n j : ℕ} (m : Measured order given counts totals n j) where
+  pub measured-more : (h : j < length order) (a : allAmong orderIds order ≡ true) {c r : ℕ} → c ≡ saidOf given (getD order j 0) (getD counts (getD order j 0) 0)
       → ((i : ℕ) (items : List ℕ) → length items ≡ getD totals (getD order j 0) 0 → r ≡ length (section i (uleb c ++ items))) → r ≤ storeMost + 21
-      → Measured order count counts totals (n + r) (j + 1)
+      → Measured order given counts totals (n + r) (j + 1)
   measured-more h a {c} {r} d l k = record { sum = sum; few = omega (arith, m .few) }
     where
       sum : (s : List ℕ) → counts ≡ tallyOf (run frame s) .counts → totals ≡ tallyOf (run frame s) .totals
-          → n + r ≡ length (prints (sectionOf count (framesOf s)) (take (j + 1) order))
+          → n + r ≡ length (prints (sectionOf given (framesOf s)) (take (j + 1) order))
       sum s p q =
           let i = getD order j 0 in
           let b = listed-below i (listed order j a h) in
-          let f = sectionOf count (framesOf s) in
-          let u : r ≡ length (f i) = l i (itemBytes i s) (sym (total-is s i b q)) ∙ ap length (section-is s i b p count d) in
+          let f = sectionOf given (framesOf s) in
+          let u : r ≡ length (f i) = l i (itemBytes i s) (sym (total-is s i b q)) ∙ ap length (section-is s i b p given d) in
           omega (arith, m .sum s p q, ap length (more f order j h), length-append (prints f (take j order)) (f i))
 
   pub measured-all : length order ≤ j → (s : List ℕ) → counts ≡ tallyOf (run frame s) .counts → totals ≡ tallyOf (run frame s) .totals
-      → n ≡ length (prints (sectionOf count (framesOf s)) order)
-  measured-all h s p q = m .sum s p q ∙ ap (λ (l : List ℕ). length (prints (sectionOf count (framesOf s)) l)) (take-all j order h)
+      → n ≡ length (prints (sectionOf given (framesOf s)) order)
+  measured-all h s p q = m .sum s p q ∙ ap (λ (l : List ℕ). length (prints (sectionOf given (framesOf s)) l)) (take-all j order h)
 
 -- ---- their writing
 
 -- the first j of them are written, n bytes
-pub record Put (order : List ℕ) (count : ℕ) (s xs ys : List ℕ) (n j : ℕ) : Type 0 where
-  pub done : Writes (prints (sectionOf count (framesOf s)) (take j order)) xs ys (Length n)
+pub record Put (order : List ℕ) (given : Given) (s xs ys : List ℕ) (n j : ℕ) : Type 0 where
+  pub done : Writes (prints (sectionOf given (framesOf s)) (take j order)) xs ys (Length n)
 
-pub put-none : (order : List ℕ) (count : ℕ) (s xs : List ℕ) → Put order count s xs xs 0 0
-put-none order count s xs = record { done = writes (omega arith) refl refl }
+pub put-none : (order : List ℕ) (given : Given) (s xs : List ℕ) → Put order given s xs xs 0 0
+put-none order given s xs = record { done = writes (omega arith) refl refl }
 
-module _ {order : List ℕ} {count : ℕ} {s xs ys : List ℕ} {n j : ℕ} (p : Put order count s xs ys n j) where
-  pub put-room : j < length order → length (prints (sectionOf count (framesOf s)) order) ≤ length xs → Room (sectionOf count (framesOf s) (getD order j 0)) ys n
+module _ {order : List ℕ} {given : Given} {s xs ys : List ℕ} {n j : ℕ} (p : Put order given s xs ys n j) where
+  pub put-room : j < length order → length (prints (sectionOf given (framesOf s)) order) ≤ length xs → Room (sectionOf given (framesOf s) (getD order j 0)) ys n
   put-room h k =
-      let f = sectionOf count (framesOf s) in
+      let f = sectionOf given (framesOf s) in
       room-then (f (getD order j 0)) (p .done) (omega (arith, bounded f order j h))
 
-  pub put-more : j < length order → {zs : List ℕ} {m : ℕ} → Writes (sectionOf count (framesOf s) (getD order j 0)) (midOf n (length ys - n) ys) zs (Length m)
-      → Put order count s xs (putMid n (length ys - n) ys zs) (n + m) (j + 1)
-  put-more h w = record { done = writes-as (sym (more (sectionOf count (framesOf s)) order j h)) (writes-then (p .done) w) }
+  pub put-more : j < length order → {zs : List ℕ} {m : ℕ} → Writes (sectionOf given (framesOf s) (getD order j 0)) (midOf n (length ys - n) ys) zs (Length m)
+      → Put order given s xs (putMid n (length ys - n) ys zs) (n + m) (j + 1)
+  put-more h w = record { done = writes-as (sym (more (sectionOf given (framesOf s)) order j h)) (writes-then (p .done) w) }
 
-  pub put-all : length order ≤ j → Writes (prints (sectionOf count (framesOf s)) order) xs ys (Length n)
-  put-all h = writes-as (ap (prints (sectionOf count (framesOf s))) (take-all j order h)) (p .done)
+  pub put-all : length order ≤ j → Writes (prints (sectionOf given (framesOf s)) order) xs ys (Length n)
+  put-all h = writes-as (ap (prints (sectionOf given (framesOf s))) (take-all j order h)) (p .done)

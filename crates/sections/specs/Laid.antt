@@ -1,15 +1,14 @@
 -- Sections laid out one behind the other, while their items are still to come: a walk over the frames finds the items of all sections in the order of adding,
 -- and writes each where its section has room for it. Assumes nothing.
 use mathlib.Core.Path.{_≡_}
-use mathlib.Core.Bool.{cond}
 use mathlib.Core.List.{List, [], _∷_, _++_}
 use Prim.Native.Nat.{ℕ, _+_, _<_}
-use lib.Dec.{eqb}
 use lib.ListN.{length, getD}
 use Rattle.format.specs.Write.{Writes}
 use Rattle.format.specs.declared.Written.the-variants.{Length}
-use Rattle.sections.specs.Section.{headOf, dataCount}
+use Rattle.sections.specs.Section.{headOf, saidOf}
 use Rattle.sections.specs.Order.{Away}
+use Rattle.sections.specs.declared.Given.{Given}
 
 -- by a section's id: what stands before its items, and how many bytes they have
 pub record Plan : Type 0 where
@@ -17,9 +16,9 @@ pub record Plan : Type 0 where
   pub total : ℕ → ℕ
 
 -- as a tally has them
-abbrev pub planOf : List ℕ → List ℕ → ℕ → Plan
-planOf counts totals count =
-    record { head = λ i. headOf i (cond (eqb i dataCount) count (getD counts i 0)) (getD totals i 0); total = λ i. getD totals i 0 }
+abbrev pub planOf : List ℕ → List ℕ → Given → Plan
+planOf counts totals given =
+    record { head = λ i. headOf i (saidOf given i (getD counts i 0)) (getD totals i 0); total = λ i. getD totals i 0 }
 
 -- how many bytes the sections of an order list have
 abbrev pub roomOf : Plan → List ℕ → ℕ

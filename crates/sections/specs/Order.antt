@@ -1,17 +1,18 @@
 -- Order lists (document 01, Store and module; answer 8: none). Assumes nothing.
 use mathlib.Core.Path.{_≡_}
 use mathlib.Core.Bool.{Bool, true, false, cond}
-use mathlib.Core.List.{List, [], _∷_}
+use mathlib.Core.List.{List, [], _∷_, _++_}
 use Prim.Native.Nat.{ℕ}
 use Rattle.format.specs.Lists.{All}
-use Rattle.frames.specs.Frames.{among}
+use Rattle.frames.specs.Ids.{sections, among}
+use Rattle.sections.specs.Section.{dataCount}
 
--- an order list has at most 32 ids, out of these
+-- an order list has at most 32 ids, of sections that hold items and of the data count section
 abbrev pub orderMost : ℕ
 orderMost = 32
 
 abbrev pub orderIds : List ℕ
-orderIds = 1 ∷ 2 ∷ 4 ∷ 9 ∷ 11 ∷ 12 ∷ []
+orderIds = sections ++ (dataCount ∷ [])
 
 abbrev pub allAmong : List ℕ → List ℕ → Bool
 allAmong ids [] = true

@@ -1,4 +1,5 @@
 // The sections of any order list, with a walk over the frames for each.
+use crate::Given;
 use crate::section::count_of;
 use crate::section::put_section;
 use frames::Tallies;
@@ -11,17 +12,17 @@ ghost use Rattle.format.specs.Runs.{run};
 ghost use Rattle.format.specs.Write.{Writes};
 ghost use Rattle.format.specs.declared.Written.the-variants.{Length};
 ghost use Rattle.frames.specs.Frames.{frame, noFrames, framesOf};
-ghost use Rattle.frames.specs.Append.{storeMost};
+ghost use Rattle.frames.specs.Builder.{storeMost};
 ghost use Rattle.frames.specs.Tally.{tallyOf};
 ghost use Rattle.sections.specs.Section.{sectionOf};
 ghost use Rattle.sections.specs.Order.{orderIds, allAmong};
 
-pub fn put_each(frames: &[u8], order: &[u8], t: Tallies, count: u32, out: &mut [u8]) -> usize
+pub fn put_each(frames: &[u8], order: &[u8], t: Tallies, given: Given, out: &mut [u8]) -> usize
     requires { ⌜ allAmong orderIds (now order) ≡ true ⌝ }
     requires { ⌜ (t ≡ tallyOf (run frame (now frames))) × (noFrames (run frame (now frames)) ≡ false) ⌝ }
     requires { ⌜ length (now frames) ≤ storeMost ⌝ }
-    requires { ⌜ length (prints (sectionOf count (framesOf (now frames))) (now order)) ≤ length (now out) ⌝ }
-    ensures { λ r. ⌜ Writes (prints (sectionOf count (framesOf (now (frames .entry)))) (now (order .entry))) (now (out .entry)) (now (out .exit)) (Length r) ⌝ }
+    requires { ⌜ length (prints (sectionOf given (framesOf (now frames))) (now order)) ≤ length (now out) ⌝ }
+    ensures { λ r. ⌜ Writes (prints (sectionOf given (framesOf (now (frames .entry)))) (now (order .entry))) (now (out .entry)) (now (out .exit)) (Length r) ⌝ }
 {
     let counts = t.counts;
     let totals = t.totals;
@@ -33,7 +34,7 @@ pub fn put_each(frames: &[u8], order: &[u8], t: Tallies, count: u32, out: &mut [
         n += put_section(
             frames,
             id,
-            count_of(id, counts[i], count),
+            count_of(id, counts[i], given),
             totals[i],
             &mut out[n..],
         );

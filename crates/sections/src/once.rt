@@ -1,4 +1,5 @@
 // All sections of an order list that has no id twice, in one walk over the frames.
+use crate::Given;
 use crate::section::count_of;
 use crate::section::put_head;
 use frames::FrameAt;
@@ -13,7 +14,7 @@ ghost use Rattle.format.specs.Runs.{run};
 ghost use Rattle.format.specs.Write.{Writes};
 ghost use Rattle.format.specs.declared.Written.the-variants.{Length};
 ghost use Rattle.frames.specs.Frames.{frame, noFrames, framesOf};
-ghost use Rattle.frames.specs.Append.{storeMost};
+ghost use Rattle.frames.specs.Builder.{storeMost};
 ghost use Rattle.frames.specs.Tally.{tallyOf};
 ghost use Rattle.sections.specs.Section.{sectionOf};
 ghost use Rattle.sections.specs.Order.{orderIds, allAmong, Once};
@@ -44,11 +45,11 @@ pub fn is_once(order: &[u8]) -> bool
 }
 
 // The heads of the sections, with room for the items behind each.
-fn put_heads(order: &[u8], t: Tallies, count: u32, out: &mut [u8]) -> Heads
+fn put_heads(order: &[u8], t: Tallies, given: Given, out: &mut [u8]) -> Heads
     requires { ⌜ (allAmong orderIds (now order) ≡ true) × Once (now order) ⌝ }
     requires { ⌜ ((i : ℕ) → i < 16 → getD (t .totals) i 0 ≤ storeMost) ⌝ }
-    requires { ⌜ roomOf (planOf (t .counts) (t .totals) count) (now order) ≤ length (now out) ⌝ }
-    ensures { λ r. ⌜ Headed (planOf (t .counts) (t .totals) count) (now (order .entry)) (now (out .entry)) (now (out .exit)) (r .places) (r .n) ⌝ }
+    requires { ⌜ roomOf (planOf (t .counts) (t .totals) given) (now order) ≤ length (now out) ⌝ }
+    ensures { λ r. ⌜ Headed (planOf (t .counts) (t .totals) given) (now (order .entry)) (now (out .entry)) (now (out .exit)) (r .places) (r .n) ⌝ }
 {
     let counts = t.counts;
     let totals = t.totals;
@@ -59,7 +60,7 @@ fn put_heads(order: &[u8], t: Tallies, count: u32, out: &mut [u8]) -> Heads
         let id = order[k];
         let i = id as usize;
         let total = totals[i];
-        n += put_head(id, count_of(id, counts[i], count), total, &mut out[n..]);
+        n += put_head(id, count_of(id, counts[i], given), total, &mut out[n..]);
         places[i] = n;
         n += total;
         k += 1;
@@ -71,14 +72,14 @@ fn put_heads(order: &[u8], t: Tallies, count: u32, out: &mut [u8]) -> Heads
 }
 
 // Each item goes behind the last of its section.
-pub fn put_once(frames: &[u8], order: &[u8], t: Tallies, count: u32, out: &mut [u8]) -> usize
+pub fn put_once(frames: &[u8], order: &[u8], t: Tallies, given: Given, out: &mut [u8]) -> usize
     requires { ⌜ (allAmong orderIds (now order) ≡ true) × Once (now order) ⌝ }
     requires { ⌜ (t ≡ tallyOf (run frame (now frames))) × (noFrames (run frame (now frames)) ≡ false) ⌝ }
     requires { ⌜ length (now frames) ≤ storeMost ⌝ }
-    requires { ⌜ length (prints (sectionOf count (framesOf (now frames))) (now order)) ≤ length (now out) ⌝ }
-    ensures { λ r. ⌜ Writes (prints (sectionOf count (framesOf (now (frames .entry)))) (now (order .entry))) (now (out .entry)) (now (out .exit)) (Length r) ⌝ }
+    requires { ⌜ length (prints (sectionOf given (framesOf (now frames))) (now order)) ≤ length (now out) ⌝ }
+    ensures { λ r. ⌜ Writes (prints (sectionOf given (framesOf (now (frames .entry)))) (now (order .entry))) (now (out .entry)) (now (out .exit)) (Length r) ⌝ }
 {
-    let h = put_heads(order, t, count, out);
+    let h = put_heads(order, t, given, out);
     let n = h.n;
     let mut places = h.places;
     let mut at: usize = 0;

@@ -1,26 +1,30 @@
 // One section: its length, and its bytes where there is room for them.
+use crate::Given;
 use format::Written;
 use frames::FrameAt;
 ghost use mathlib.Core.Path.{_≡_};
-ghost use mathlib.Core.Bool.{false, cond};
+ghost use mathlib.Core.Bool.{false};
 ghost use mathlib.Core.List.{List, _++_};
 ghost use Prim.Native.Nat.{ℕ, _+_, _≤_};
-ghost use lib.Dec.{eqb};
 ghost use lib.ListN.{length};
 ghost use Rattle.format.specs.Runs.{run};
 ghost use Rattle.format.specs.Write.{Writes};
 ghost use Rattle.format.specs.declared.Written.the-variants.{Length};
 ghost use Rattle.leb128.specs.Leb.{uleb};
 ghost use Rattle.frames.specs.Frames.{frame, noFrames};
-ghost use Rattle.frames.specs.Append.{storeMost};
+ghost use Rattle.frames.specs.Builder.{storeMost};
 ghost use Rattle.frames.specs.Tally.{itemBytes};
-ghost use Rattle.sections.specs.Section.{section, headOf, dataCount};
+ghost use Rattle.sections.specs.Section.{section, headOf, saidOf};
 
 // The count that a section says: how many items it has or, of the section that has none, the data count.
-pub fn count_of(id: u8, items: usize, count: u32) -> usize
-    ensures { λ r. ⌜ r ≡ cond (eqb id dataCount) count items ⌝ }
+pub fn count_of(id: u8, items: usize, given: Given) -> usize
+    ensures { λ r. ⌜ r ≡ saidOf given id items ⌝ }
 {
-    if id == 12 { count as usize } else { items }
+    if id == 12 {
+        given.count as usize
+    } else {
+        items
+    }
 }
 
 // How many bytes a section has that says this count and has items of so many bytes.

@@ -11,7 +11,7 @@ use lib.ListN.{length, take, length-take, length-append}
 use lib.Seq.{take-append-add}
 use Rattle.format.specs.Parsed.{Parsed, fail, got}
 use Rattle.format.specs.Read.{placeOf}
-use Rattle.frames.specs.Frames.{idOf}
+use Rattle.frames.specs.Ids.{idOf}
 use Rattle.texts.specs.Judge.{recordIn, itemIn, why, fine}
 use Rattle.texts.specs.declared.Span.{Span}
 use Rattle.items.specs.Record.{Record, Item, records, resolved, readIn, recordOf}

@@ -8,10 +8,11 @@ pub use format::Written;
 use format::copy_words;
 use format::count;
 use format::least;
-use frames::STORE_MOST;
 pub use frames::State;
+use frames::is_over;
 use items::Judged;
 pub use module::Finished;
+pub use module::Given;
 pub use module::Module;
 pub use module::finish;
 pub use numbers::ReadI32;
@@ -32,41 +33,51 @@ ghost use lib.ListN.{length};
 ghost use Rattle.thriftbell.specs.Add.{outcome, adding};
 ghost use Rattle.thriftbell.specs.Read.{outcome as readOutcome, reading, PutsWords};
 
-// What adding answers: the state with the frame's room used too; or a number of the table, and then nothing was changed.
-pub enum Added {
-    To(State),
-    Refused(u32),
+// What adding answers: 0, and the state with the frame's room used too; or a number of the table, and then nothing was changed.
+pub struct Added {
+    pub state: State,
+    pub number: u32,
 }
 
 // What is judged is tried in the room that is lent for it, and put behind the room used once it is accepted.
 fn add_tried(state: State, store: &mut [u8], words: &[u32], text: &[u8], tried: &mut [u8]) -> Added
-    ensures { λ r. ⌜ outcome (state .used) r (now (store .exit)) ≡ adding (state .used) (now (store .entry)) (now (words .entry)) (now (text .entry)) ⌝ }
+    ensures { λ r. ⌜ outcome r (now (store .exit)) ≡ adding state (now (store .entry)) (now (words .entry)) (now (text .entry)) ⌝ }
 {
+    if is_over(state, store) {
+        return Added {
+            state: state,
+            number: 1,
+        };
+    }
     let at = state.used;
-    if STORE_MOST < store.len() {
-        return Added::Refused(1);
-    }
-    if store.len() < at {
-        return Added::Refused(1);
-    }
     let mut n = 0;
     match items::judge(words, text, tried) {
-        Judged::Refused(k) => return Added::Refused(k),
+        Judged::Refused(k) => return Added {
+            state: state,
+            number: k,
+        },
         Judged::Length(length) => n = length,
     }
     let next = at + n + 5;
     if store.len() < next {
-        return Added::Refused(7);
+        return Added {
+            state: state,
+            number: 7,
+        };
     }
     let from = at + 5;
     frames::put_head(words[0] as u8, n, &mut store[at..]);
     items::put_item(words, text, n, tried, &mut store[from..]);
-    Added::To(State { used: next })
+    let grown = State { used: next };
+    Added {
+        state: grown,
+        number: 0,
+    }
 }
 
 // Clearing more room takes longer than it saves where a record is short. Sixteen words are a table, one import, or data.
 pub fn add(state: State, store: &mut [u8], words: &[u32], text: &[u8]) -> Added
-    ensures { λ r. ⌜ outcome (state .used) r (now (store .exit)) ≡ adding (state .used) (now (store .entry)) (now (words .entry)) (now (text .entry)) ⌝ }
+    ensures { λ r. ⌜ outcome r (now (store .exit)) ≡ adding state (now (store .entry)) (now (words .entry)) (now (text .entry)) ⌝ }
 {
     if words.len() <= 16 {
         let mut tried = [0u8; 64];

@@ -17,7 +17,7 @@ abbrev μ-loop : tie.MeasureT-loop
 
 loop-holds : tie.Need-loop-holds Inv-loop μ-loop
 loop-holds c =
-    let h = c .before .before .before .before .before .pre in
+    let h = c .before .before .before .before .before .before .pre in
     (record { gathered = omega arith; waiting = omega arith; lined = h .0; buffered = h .1; room = h .2 }, record { line = refl; store = refl; buffer = refl; out = refl }, refl)
 
 loop-again : tie.Need-loop-again Inv-loop μ-loop
@@ -40,6 +40,7 @@ answer-all-spec =
     (tie.spec
     Inv-loop
     μ-loop
+    (λ c κs. search needs)
     loop-holds
     (λ c κs. search needs)
     (λ c. search needs)
@@ -60,11 +61,11 @@ answer-all-spec =
     (λ c. search needs)
     (λ c. search needs)
     (λ c κs. c .before .before .before .before .before .before .before .before .before .before .before .before .before .before .before .loop .inv .0)
-    (λ c. search needs)
-    (λ c. search needs)
-    (λ c. search needs)
-    (λ c. search needs)
-    (λ c. search needs)
+    (λ c. c .before .before .before .before .before .before .before .before .before .before .before .before .before .before .before .before .before .before .before .before .before .before .before .read-piece .kept .0 ∙ c .before .before .before .before .before .before .before .before .before .before .before .before .before .before .before .before .before .before .before .before .before .before .before .before .before .before .loop .inv .2)
+    (λ c. c .before .before .before .before .before .before .before .before .before .before .take-piece .kept .1 .1 .0 ∙ c .before .before .before .before .before .before .before .before .before .before .before .before .before .before .before .before .before .before .before .before .before .before .before .before .before .before .loop .inv .1 .line)
+    (λ c. c .before .before .before .before .before .before .before .before .before .before .take-piece .kept .1 .1 .1 .0 ∙ c .before .before .before .before .before .before .before .before .before .before .before .before .before .before .before .before .before .before .before .before .before .before .before .before .before .before .loop .inv .1 .store)
+    (λ c. c .before .before .before .before .before .before .before .before .before .before .take-piece .kept .1 .1 .1 .1 .0 ∙ c .before .before .before .before .before .before .before .before .before .before .before .before .before .before .before .before .before .before .before .before .before .before .before .before .before .before .loop .inv .1 .buffer)
+    (λ c. c .before .before .before .before .before .before .before .before .before .before .take-piece .kept .1 .1 .1 .1 .1 .0 ∙ c .before .before .before .before .before .before .before .before .before .before .before .before .before .before .before .before .before .before .before .before .before .before .before .before .before .before .loop .inv .1 .out)
     (λ c. c .before .before .before .before .before .before .before .before .before .before .take-piece .ensures .ready .waiting)
     (λ c. search needs)
     (λ c. search needs)

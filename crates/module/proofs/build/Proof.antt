@@ -14,10 +14,10 @@ use Rattle.format.specs.Runs.{run}
 use Rattle.format.specs.Write.{Writes, Room, writes-as, writes-then, room-then, fitted, within, same-long}
 use Rattle.format.specs.declared.Written.the-variants.{Length}
 use Rattle.frames.specs.Frames.{frame, framesOf, noFrames}
-use Rattle.frames.specs.Append.{storeMost}
+use Rattle.frames.specs.Builder.{storeMost}
 use Rattle.frames.specs.Tally.{items-within}
 use Rattle.frames.specs.declared.Tallies.{Tallies}
-use Rattle.sections.specs.Section.{sectionOf}
+use Rattle.sections.specs.Section.{ending, sectionOf}
 use Rattle.sections.proofs.Listed.{total-is}
 use Rattle.module.specs.Module.{header}
 use Rattle.module.proofs.Finishing.{tally-told, module-parts, module-long, no-frames, short, written}
@@ -27,7 +27,7 @@ use Rattle.module.proofs.build.Tie as tie
 returns : tie.Need-returns
 returns c =
     let a = c .before .before .before .before .before .before .args in
-    no-frames (now (a .order)) (a .count) (run frame (now (a .frames))) (now (a .out)) (tally-told _ (c .before .before .tally .ensures) (c .if1 .taken))
+    no-frames (ending (now (a .order)) (a .given)) (run frame (now (a .frames))) (now (a .out)) (tally-told _ (c .before .before .tally .ensures) (c .if1 .taken))
 
 sections-len-requires : tie.Need-sections-len-requires
 sections-len-requires c κs =
@@ -41,7 +41,7 @@ module _ (k : tie.After-sections-len) where
   frames-there = tally-told _ (k .before .before .before .tally .ensures) (k .before .if1 .left)
 
   abbrev parts : List ℕ
-  parts = prints (sectionOf (k .before .before .before .before .before .before .before .args .count) (framesOf (now (k .before .before .before .before .before .before .before .args .frames)))) (now (k .before .before .before .before .before .before .before .args .order))
+  parts = prints (sectionOf (k .before .before .before .before .before .before .before .args .given) (framesOf (now (k .before .before .before .before .before .before .before .args .frames)))) (now (k .before .before .before .before .before .before .before .args .order))
 
   long : k .sections-len .result ≡ length parts
   long = k .sections-len .ensures .0 (now (k .before .before .before .before .before .before .before .args .frames)) (k .before .before .before .tally .ensures)
@@ -50,7 +50,7 @@ returns-2 : tie.Need-returns-2
 returns-2 c =
     let a = c .before .before .before .before .before .before .before .before .args in
     let o = run frame (now (a .frames)) in
-    short (now (a .order)) (a .count) o (now (a .out)) (frames-there (c .before)) (omega (arith, c .if2 .taken, long (c .before), module-long (now (a .order)) (a .count) o (now (a .out))))
+    short (ending (now (a .order)) (a .given)) o (now (a .out)) (frames-there (c .before)) (omega (arith, c .if2 .taken, long (c .before), module-long (ending (now (a .order)) (a .given)) o (now (a .out))))
 
 -- the header is written, and there is room for the sections
 first : (c : tie.After-slice-known2) → Writes header (now (c .before .before .before .before .before .before .before .before .before .before .before .before .args .out)) (c .before .before .put-header .last .0) (Length 8)
@@ -77,7 +77,7 @@ returns-3 : tie.Need-returns-3
 returns-3 c =
     let a = c .before .before .before .before .before .before .before .before .before .before .before .before .before .before .before .before .args in
     let o = run frame (now (a .frames)) in
-    written (now (a .order)) (a .count) o (now (a .out)) (frames-there (c .before .before .before .before .before .before .before .before .before)) (writes-as (sym (module-parts (now (a .order)) (a .count) o (now (a .out)))) (whole c))
+    written (ending (now (a .order)) (a .given)) o (now (a .out)) (frames-there (c .before .before .before .before .before .before .before .before .before)) (writes-as (sym (module-parts (ending (now (a .order)) (a .given)) o (now (a .out)))) (whole c))
 
 pub build-spec : {M : Type 1} → statement M
 build-spec =

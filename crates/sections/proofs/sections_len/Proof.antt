@@ -5,17 +5,17 @@ use native.Mathlib.Omega.{arith}
 use Prim.Native.Nat.{_+_, _-_, _≤_, _<_}
 use lib.ListN.{length, getD}
 use borrow.Author.Needs.{needs}
-use Rattle.frames.specs.Append.{storeMost}
+use Rattle.frames.specs.Builder.{storeMost}
 use Rattle.frames.specs.declared.Tallies.{Tallies}
 use Rattle.sections.proofs.Listed.{listed, listed-below, Measured, measured-none, measured-more, measured-all}
 use Rattle.sections.proofs.sections_len.Statement.{statement}
 use Rattle.sections.proofs.sections_len.Tie as tie
 
 abbrev Inv-loop : tie.InvT-loop
-Inv-loop order count counts totals n₀ j₀ n j = Measured order count counts totals n j × (j ≤ length order)
+Inv-loop order given counts totals n₀ j₀ n j = Measured order given counts totals n j × (j ≤ length order)
 
 abbrev μ-loop : tie.MeasureT-loop
-μ-loop order count counts totals n₀ j₀ n j = length order - j
+μ-loop order given counts totals n₀ j₀ n j = length order - j
 
 -- the id is below 16
 below : (c : tie.After-shared-slice-known2 Inv-loop μ-loop) → getD (now (c .before .before .before .before .before .before .args .order)) (c .before .before .loop .j) 0 < 16

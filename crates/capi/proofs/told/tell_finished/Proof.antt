@@ -10,16 +10,7 @@ returns : tie.Need-returns
 returns c = λ out. sym (ap (λ (f : Finished). outcome f out) (c .before .f .given .1))
 
 returns-2 : tie.Need-returns-2
-returns-2 c = λ out. sym (ap (λ (f : Finished). outcome f out) (c .enum-told .given .1))
-
-returns-3 : tie.Need-returns-3
-returns-3 c = λ out. sym (ap (λ (f : Finished). outcome f out) (c .enum-told2 .given .1))
-
-returns-4 : tie.Need-returns-4
-returns-4 c = λ out. sym (ap (λ (f : Finished). outcome f out) (c .enum-told3 .given .1))
-
-returns-5 : tie.Need-returns-5
-returns-5 c = λ out. sym (ap (λ (f : Finished). outcome f out) (c .enum-told4 .given .1))
+returns-2 c = λ out. sym (ap (λ (f : Finished). outcome f out) (c .before .f2 .given .1))
 
 pub tell-finished-spec : {M : Type 1} → statement M
-tell-finished-spec = tie.close (tie.spec (λ c. search needs) (λ c. search needs) (λ c. search needs) (λ c. search needs) (λ c. search needs) returns returns-2 returns-3 returns-4 returns-5)
+tell-finished-spec = tie.close (tie.spec (λ c. search needs) (λ c. search needs) returns returns-2)

@@ -12,6 +12,7 @@ use borrow.Author.Needs.{needs}
 use borrow.Author.Tests.{not-true, not-false}
 use Rattle.format.specs.Parsed.{Parsed, fail, got}
 use Rattle.format.specs.Write.{rest-lent}
+use Rattle.frames.specs.declared.State.{State}
 use Rattle.hex.specs.Words.{wordsIn, Reads, told-words, told-missing}
 use Rattle.hex.specs.Frame.{Frame, adds, wordList, whole}
 use Rattle.lines.specs.Done.{done, doing, Tells}
@@ -22,14 +23,14 @@ use Rattle.lines.proofs.tell.add_frame.Statement.{statement}
 use Rattle.lines.proofs.tell.add_frame.Tie as tie
 
 -- bytes that hold no count and words are no frame's
-tells-none : (used : ℕ) (s xs : List ℕ) {r : Told} → wordList .parse s ≡ fail → r ≡ record { number = 12; value = 0; used = used } → Tells (whole adds (wordList .parse s)) used xs xs r
-tells-none used s xs e q =
-    record { right = λ buffer. ap (λ (r : Told). done r xs buffer) q ∙ sym (ap (λ (m : Parsed (List ℕ)). doing used xs buffer (whole adds m)) e) }
+tells-none : (state : State) (s xs : List ℕ) {r : Told} → wordList .parse s ≡ fail → r ≡ record { number = 12; value = 0; state = state } → Tells (whole adds (wordList .parse s)) state xs xs r
+tells-none state s xs e q =
+    record { right = λ buffer. ap (λ (r : Told). done r xs buffer) q ∙ sym (ap (λ (m : Parsed (List ℕ)). doing state xs buffer (whole adds m)) e) }
 
 returns : tie.Need-returns
 returns c =
     let a = c .before .before .before .before .args in
-    tells-none (a .state .used) (now (a .bytes)) (now (a .store)) (no-count (now (a .bytes)) (c .before .if1 .taken)) (c .plain .ensures)
+    tells-none (a .state) (now (a .bytes)) (now (a .store)) (no-count (now (a .bytes)) (c .before .if1 .taken)) (c .plain .ensures)
 
 -- what reading the words tells
 read : (k : tie.After-list2) → let s = now (k .before .before .before .before .before .before .before .before .before .args .bytes) in
@@ -56,7 +57,7 @@ returns-2 c =
     let h : 2 ≤ length s = omega (arith, k .before .before .before .before .before .before .if1 .left) in
     let bytes : (i : ℕ) → getD s i 0 < 256 = λ i. k .before .before .before .before .shared-slice-known3 .given i .fits in
     let e : wordsIn (countIn s) (drop 2 s) ≡ fail = missing s (t .0) (t .1) (a .pre) (t .2) (not-true _ (c .before .if2 .taken)) in
-    tells-none (a .args .state .used) s (now (a .args .store)) (words-found s h bytes fail e) (c .plain2 .ensures)
+    tells-none (a .args .state) s (now (a .args .store)) (words-found s h bytes fail e) (c .plain2 .ensures)
 
 -- the words and the text that were found
 record Found (s ys : List ℕ) : Type 0 where
@@ -97,7 +98,7 @@ returns-3 c =
     let z : countIn s - 0 ≡ countIn s = omega arith in
     let words : take (countIn s - 0) (drop 0 (k .before .before .read-words .last .1 .1 .0)) ≡ f .words = rw z (f .listed) in
     let text = rest-lent (2 + 4 * countIn s) s ∙ sym (f .behind) in
-    subst (λ (o : Option Frame). Tells o (a .state .used) (now (a .store)) (c .before .before .add-words .last .1 .1 .1 .0) (c .before .before .add-words .result))
+    subst (λ (o : Option Frame). Tells o (a .state) (now (a .store)) (c .before .before .add-words .last .1 .1 .1 .0) (c .before .before .add-words .result))
     ((λ i. some (adds (words i) (text i))) ∙ sym (ap (whole adds) (f .is)))
     (c .before .before .add-words .ensures)
 

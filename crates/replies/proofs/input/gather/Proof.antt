@@ -12,15 +12,15 @@ use Rattle.replies.proofs.input.gather.Tie as tie
 
 returns : tie.Need-returns
 returns c =
-    let s = c .before .before .before .before .before .before .before .before in
+    let s = c .before .before .before .before .before .before .before .before .before in
     let line = now (s .args .line) in
     let n = s .args .r .n in
-    let h = c .before .before .copy in
+    let h = c .before .before .before .copy in
     record {
       state = refl;
       waiting = refl;
-      gathered = omega (arith, s .pre, c .before .before .before .before .before .least .ensures, same-len-mid n (length line - n) line (h .last .1 .0) (h .kept .1 .0));
-      front = gathers line (now (s .args .part)) n (c .before .before .before .before .before .least .result) (s .pre) (c .before .before .before .before .before .least .ensures) (h .ensures);
+      gathered = omega (arith, s .pre, c .before .before .before .before .before .before .least .ensures, same-len-mid n (length line - n) line (h .last .1 .0) (h .kept .1 .0));
+      front = gathers line (now (s .args .part)) n (c .before .before .before .before .before .before .least .result) (s .pre) (c .before .before .before .before .before .before .least .ensures) (h .ensures);
     }
 
 pub gather-spec : {M : Type 1} → statement M

@@ -13,7 +13,7 @@ returns c = record { state = refl; room = omega (arith, c .if1 .taken, c .before
 
 returns-2 : tie.Need-returns-2
 returns-2 c =
-    let s = c .before .before .before .before in
+    let s = c .before .before .before .before .before in
     record { state = refl; room = omega (arith, s .pre .1); handed = take (s .args .r .at) (now (s .args .out)); waits = append-nil (take (s .args .r .at) (now (s .args .out))) }
 
 pub make-room-spec : {M : Type 1} → statement M

@@ -9,57 +9,54 @@ use denote.Ref.{now}
 use borrow.Author.Needs.{needs}
 use borrow.Rule.Slice.PartMut.{same-len-mid}
 use Rattle.format.specs.Write.{rest-lent, rest-back}
-use Rattle.lines.specs.Answer.{Outcome, outcome, answering, answers-line, answer-long}
-use Rattle.lines.specs.declared.Reply.{Reply}
+use Rattle.format.specs.declared.Written.{Written}
+use Rattle.lines.specs.Answer.{Outcome, lined, answering, answers-line, answer-long}
 use Rattle.replies.specs.Run.{answerTo}
 use Rattle.replies.proofs.reply.reply.Statement.{statement}
 use Rattle.replies.proofs.reply.reply.Tie as tie
 
 -- what the reply stands for
-stands : (k : tie.After-slice-known6) (x : Reply) → k .before .before .before .before .before .before .answer .result ≡ x
-    → let h = k .before .before .before .before .before .before .answer in
-    let a = k .before .before .before .before .before .before .before .before .before .before .before .before .before .before .args in
-    outcome (a .r .used) x (h .last .1 .1 .0) (h .last .1 .1 .1 .0) (h .last .1 .1 .1 .1 .0) ≡ answerTo (a .r) (now (a .line)) (now (a .store)) (now (a .buffer)) (now (a .out))
+stands : (k : tie.After-slice-known6) (x : Written) → k .before .before .before .before .before .before .answer .result .line ≡ x → let h = k .before .before .before .before .before .before .answer in let a = k .before .before .before .before .before .before .before .before .before .before .before .before .before .before .before .args in
+    lined x (h .result .state) (h .last .1 .1 .0) (h .last .1 .1 .1 .0) (h .last .1 .1 .1 .1 .0) ≡ answerTo (a .r) (now (a .line)) (now (a .store)) (now (a .buffer)) (now (a .out))
 stands k x e =
     let h = k .before .before .before .before .before .before .answer in
-    let a = k .before .before .before .before .before .before .before .before .before .before .before .before .before .before .args in
-    ap (λ (x : Reply). outcome (a .r .used) x (h .last .1 .1 .0) (h .last .1 .1 .1 .0) (h .last .1 .1 .1 .1 .0)) (sym e)
+    let a = k .before .before .before .before .before .before .before .before .before .before .before .before .before .before .before .args in
+    ap (λ (x : Written). lined x (h .result .state) (h .last .1 .1 .0) (h .last .1 .1 .1 .0) (h .last .1 .1 .1 .1 .0)) (sym e)
     ∙ h .ensures
-    ∙ ap (λ (l : List ℕ). answering (a .r .used) (now (a .store)) (now (a .buffer)) l (now (a .line))) (rest-lent (a .r .at) (now (a .out)))
+    ∙ ap (λ (l : List ℕ). answering (a .r .state) (now (a .store)) (now (a .buffer)) l (now (a .line))) (rest-lent (a .r .at) (now (a .out)))
 
 returns : tie.Need-returns
 returns c =
-    let k = c .before .before in
-    let s = k .before .before .before .before .before .before .before .before .before .before .before .before .before .before in
+    let k = c .before .before .before in
+    let s = k .before .before .before .before .before .before .before .before .before .before .before .before .before .before .before in
     let a = s .args in
     let room : 2 + 2 * length (now (a .buffer)) ≤ length (drop (a .r .at) (now (a .out))) = omega (arith, s .pre, length-drop (a .r .at) (now (a .out))) in
-    let e = answers-line (a .r .used) (now (a .store)) (now (a .buffer)) (drop (a .r .at) (now (a .out))) (now (a .line)) room in
+    let e = answers-line (a .r .state) (now (a .store)) (now (a .buffer)) (drop (a .r .at) (now (a .out))) (now (a .line)) room in
     absurd (true≢false (ap (λ (o : Outcome). o .room) (e ∙ sym (stands k _ (c .enum-told .given .1)))))
 
 -- where the answer ends
-ends : (c : tie.After-known-told) → let a = c .before .before .before .before .before .before .before .before .before .before .before .before .before .before .before .before .before .args in
-    let o = answerTo (a .r) (now (a .line)) (now (a .store)) (now (a .buffer)) (now (a .out)) in
-    (c .before .s .given .0 .1 .0 ≡ o .value) × (a .r .at + o .value < length (now (a .out)))
+ends : (c : tie.After-known-told) → let a = c .before .before .before .before .before .before .before .before .before .before .before .before .before .before .before .before .before .before .before .args in let o = answerTo (a .r) (now (a .line)) (now (a .store)) (now (a .buffer)) (now (a .out)) in
+    (c .before .told .given .0 .0 ≡ o .value) × (a .r .at + o .value < length (now (a .out)))
 ends c =
-    let s = c .before .before .before .before .before .before .before .before .before .before .before .before .before .before .before .before .before in
+    let s = c .before .before .before .before .before .before .before .before .before .before .before .before .before .before .before .before .before .before .before in
     let a = s .args in (
-      ap (λ (o : Outcome). o .value) (stands (c .before .before .before) _ (c .before .s .given .1)),
-      omega (arith, s .pre, answer-long (a .r .used) (now (a .store)) (now (a .buffer)) (drop (a .r .at) (now (a .out))) (now (a .line))),
+      ap (λ (o : Outcome). o .value) (stands (c .before .before .before .before) _ (c .before .told .given .1)),
+      omega (arith, s .pre, answer-long (a .r .state) (now (a .store)) (now (a .buffer)) (drop (a .r .at) (now (a .out))) (now (a .line))),
     )
 
 returns-2 : tie.Need-returns-2
 returns-2 c =
-    let k = c .before .before .before in
+    let k = c .before .before .before .before in
     let h = k .before .before .before .before .before .before .answer in
-    let s = k .before .before .before .before .before .before .before .before .before .before .before .before .before .before in
+    let s = k .before .before .before .before .before .before .before .before .before .before .before .before .before .before .before in
     let a = s .args in
     let xs = now (a .out) in
-    let e = stands k _ (c .before .s .given .1) in
+    let e = stands k _ (c .before .told .given .1) in
     record {
-      run = λ i. record { used = e i .used; n = 0; at = a .r .at + e i .value + 1; ok = a .r .ok };
+      run = λ i. record { state = e i .state; n = 0; at = a .r .at + e i .value + 1; ok = a .r .ok };
       store = ap (λ (o : Outcome). o .store) e;
       buffer = ap (λ (o : Outcome). o .buffer) e;
-      answers = ap (λ (l : List ℕ). set l (a .r .at + c .before .s .given .0 .1 .0) 0x0A) (rest-back (a .r .at) xs (h .last .1 .1 .1 .1 .0) (omega (arith, s .pre)))
+      answers = ap (λ (l : List ℕ). set l (a .r .at + c .before .told .given .0 .0) 0x0A) (rest-back (a .r .at) xs (h .last .1 .1 .1 .1 .0) (omega (arith, s .pre)))
           ∙ (λ i. set (take (a .r .at) xs ++ e i .out) (a .r .at + e i .value) 0x0A);
       fits = ends c .1;
     }
@@ -79,8 +76,8 @@ reply-spec =
     (λ c. search needs)
     returns
     (λ c. omega (arith, ends c .0, ends c .1))
-    (λ c. let k = c .before .before .before in let h = k .before .before .before .before .before .before .answer in
-    let a = k .before .before .before .before .before .before .before .before .before .before .before .before .before .before .args in
+    (λ c. let k = c .before .before .before .before in let h = k .before .before .before .before .before .before .answer in
+    let a = k .before .before .before .before .before .before .before .before .before .before .before .before .before .before .before .args in
     omega (arith, ends c .0, ends c .1, same-len-mid (a .r .at) (length (now (a .out)) - a .r .at) (now (a .out)) (h .last .1 .1 .1 .1 .0) (h .kept .1 .1 .1 .1 .0)))
     (λ c. omega (arith, ends c .0, ends c .1))
     (λ c. search needs)

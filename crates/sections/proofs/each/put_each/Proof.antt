@@ -17,10 +17,10 @@ use Rattle.sections.proofs.each.put_each.Statement.{statement}
 use Rattle.sections.proofs.each.put_each.Tie as tie
 
 abbrev Inv-loop : tie.InvT-loop
-Inv-loop frames order count out₀ counts totals n₀ k₀ out n k = Put order count frames out₀ out n k
+Inv-loop frames order given out₀ counts totals n₀ k₀ out n k = Put order given frames out₀ out n k
 
 abbrev μ-loop : tie.MeasureT-loop
-μ-loop frames order count out₀ counts totals n₀ k₀ out n k = length order - k
+μ-loop frames order given out₀ counts totals n₀ k₀ out n k = length order - k
 
 -- the id is below 16
 below : (c : tie.After-shared-slice-known3 Inv-loop μ-loop) → getD (now (c .before .before .before .before .before .before .before .before .args .order)) (c .before .before .loop .k) 0 < 16
@@ -29,11 +29,11 @@ below c = listed-below _ (listed (now (c .before .before .before .before .before
 -- the section that is next
 next : (c : tie.After-count-of Inv-loop μ-loop) → _≡_ {A = List ℕ}
     (section (getD (now (c .before .before .before .before .before .before .before .before .before .args .order)) (c .before .before .before .loop .k) 0) (uleb (c .count-of .result) ++ itemBytes (getD (now (c .before .before .before .before .before .before .before .before .before .args .order)) (c .before .before .before .loop .k) 0) (now (c .before .before .before .before .before .before .before .before .before .args .frames))))
-    (sectionOf (c .before .before .before .before .before .before .before .before .before .args .count) (framesOf (now (c .before .before .before .before .before .before .before .before .before .args .frames))) (getD (now (c .before .before .before .before .before .before .before .before .before .args .order)) (c .before .before .before .loop .k) 0))
-next c = section-is (now (c .before .before .before .before .before .before .before .before .before .args .frames)) _ (below (c .before)) (ap (λ (t : Tallies). t .counts) (c .before .before .before .before .before .before .before .before .before .pre .1 .0 .0)) (c .before .before .before .before .before .before .before .before .before .args .count) (c .count-of .ensures)
+    (sectionOf (c .before .before .before .before .before .before .before .before .before .args .given) (framesOf (now (c .before .before .before .before .before .before .before .before .before .args .frames))) (getD (now (c .before .before .before .before .before .before .before .before .before .args .order)) (c .before .before .before .loop .k) 0))
+next c = section-is (now (c .before .before .before .before .before .before .before .before .before .args .frames)) _ (below (c .before)) (ap (λ (t : Tallies). t .counts) (c .before .before .before .before .before .before .before .before .before .pre .1 .0 .0)) (c .before .before .before .before .before .before .before .before .before .args .given) (c .count-of .ensures)
 
 left : (c : tie.After-count-of Inv-loop μ-loop)
-    → Room (sectionOf (c .before .before .before .before .before .before .before .before .before .args .count) (framesOf (now (c .before .before .before .before .before .before .before .before .before .args .frames))) (getD (now (c .before .before .before .before .before .before .before .before .before .args .order)) (c .before .before .before .loop .k) 0)) (c .before .before .before .loop .out) (c .before .before .before .loop .n)
+    → Room (sectionOf (c .before .before .before .before .before .before .before .before .before .args .given) (framesOf (now (c .before .before .before .before .before .before .before .before .before .args .frames))) (getD (now (c .before .before .before .before .before .before .before .before .before .args .order)) (c .before .before .before .loop .k) 0)) (c .before .before .before .loop .out) (c .before .before .before .loop .n)
 left c = put-room (c .before .before .before .loop .inv) (omega (arith, c .before .before .loop-test .taken)) (c .before .before .before .before .before .before .before .before .before .pre .1 .1 .1)
 
 put-section-requires : tie.Need-put-section-requires Inv-loop μ-loop

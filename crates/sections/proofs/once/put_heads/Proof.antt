@@ -18,10 +18,10 @@ use Rattle.sections.proofs.once.put_heads.Statement.{statement}
 use Rattle.sections.proofs.once.put_heads.Tie as tie
 
 abbrev Inv-loop : tie.InvT-loop
-Inv-loop order count out₀ counts totals places₀ n₀ k₀ out places n k = Headed (planOf counts totals count) (take k order) out₀ out places n
+Inv-loop order given out₀ counts totals places₀ n₀ k₀ out places n k = Headed (planOf counts totals given) (take k order) out₀ out places n
 
 abbrev μ-loop : tie.MeasureT-loop
-μ-loop order count out₀ counts totals places₀ n₀ k₀ out places n k = length order - k
+μ-loop order given out₀ counts totals places₀ n₀ k₀ out places n k = length order - k
 
 module _ (c : tie.After-shared-slice-known2 Inv-loop μ-loop) where
   abbrev order : List ℕ
@@ -32,7 +32,7 @@ module _ (c : tie.After-shared-slice-known2 Inv-loop μ-loop) where
   id = getD order (c .before .before .loop .k) 0
 
   abbrev plan : Plan
-  plan = planOf (c .before .before .before .before .before .before .before .args .t .counts) (c .before .before .before .before .before .before .before .args .t .totals) (c .before .before .before .before .before .before .before .args .count)
+  plan = planOf (c .before .before .before .before .before .before .before .args .t .counts) (c .before .before .before .before .before .before .before .args .t .totals) (c .before .before .before .before .before .before .before .args .given)
 
   -- is below 16
   below : id < 16
