@@ -11,7 +11,7 @@ use Rattle.format.specs.Basic.{find, table}
 use Rattle.format.specs.Combine.{dep, pair}
 use Rattle.format.specs.Alternatives.{Heads, heads-dep, heads-code}
 use Rattle.leb128.specs.Formats.{index}
-use Rattle.texts.specs.Words.{word}
+use Rattle.words.specs.Words.{word}
 use Rattle.types.specs.Vals.{fieldWords, fieldBytes}
 use Rattle.types.specs.declared.ValType.{ValType}
 use Rattle.types.specs.declared.FieldType.{FieldType}

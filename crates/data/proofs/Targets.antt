@@ -20,8 +20,9 @@ use Rattle.numbers.specs.Decoded.{number-missing, number-found, number-place}
 use Rattle.numbers.specs.declared.ReadU32.{ReadU32}
 use Rattle.numbers.specs.declared.ReadU32.the-variants as U32
 use Rattle.texts.specs.Text.{constant, sliceOf, refusalOf}
-use Rattle.texts.specs.Words.{word, span-at}
-use Rattle.texts.specs.WordWalks.{AreWords, word-read}
+use Rattle.words.specs.Words.{word}
+use Rattle.texts.specs.Spans.{span-at}
+use Rattle.words.specs.WordWalks.{AreWords, word-read}
 use Rattle.texts.specs.declared.Span.{Span}
 use Rattle.parts.specs.Writing.{Writing}
 use Rattle.parts.specs.Reading.{Reading}

@@ -16,7 +16,7 @@ use Rattle.format.specs.Alternatives.{Heads, is, alt, altOk, heads-tag, heads-a
 use Rattle.format.specs.Told.{one}
 use Rattle.leb128.specs.Formats.{u32}
 use Rattle.texts.specs.Section.{Section, textless}
-use Rattle.texts.specs.Words.{word}
+use Rattle.words.specs.Words.{word}
 use Rattle.texts.specs.declared.Span.{Span}
 use Rattle.parts.specs.Text.{expression}
 use Rattle.parts.specs.Both.{both}

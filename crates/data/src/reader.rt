@@ -11,7 +11,7 @@ ghost use lib.ListN.{length};
 ghost use Rattle.format.specs.Count.{silent};
 ghost use Rattle.format.specs.Walk.{Walks};
 ghost use Rattle.texts.specs.Judge.{textMost};
-ghost use Rattle.texts.specs.Words.{word};
+ghost use Rattle.words.specs.Words.{word};
 ghost use Rattle.parts.specs.Reading.{Reading};
 ghost use Rattle.data.specs.Target.{memoryIndexBytes, active, targetOf, target};
 ghost use Rattle.data.specs.Segment.{dataSection};

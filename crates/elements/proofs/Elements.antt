@@ -16,12 +16,13 @@ use Rattle.format.specs.declared.Done.{Done}
 use Rattle.format.specs.declared.Walk.{Walk}
 use Rattle.format.specs.declared.Walk.the-variants as walks
 use Rattle.leb128.specs.Formats.{u32}
-use Rattle.texts.specs.WordWalks.{AreWords}
-use Rattle.texts.specs.Words.{word, span}
+use Rattle.words.specs.WordWalks.{AreWords}
+use Rattle.words.specs.Words.{word}
+use Rattle.texts.specs.Spans.{span}
 use Rattle.texts.specs.declared.Span.{Span}
 use Rattle.types.specs.Words.{refWords, refOf, refTo}
 use Rattle.types.specs.Bytes.{refBytes}
-use Rattle.types.specs.Vals.{unused}
+use Rattle.words.specs.Words.{unused}
 use Rattle.types.specs.Answers.{refAns}
 use Rattle.types.specs.declared.RefRead.{RefRead}
 use Rattle.types.specs.declared.RefRead.the-variants as refs

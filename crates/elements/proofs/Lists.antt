@@ -13,7 +13,8 @@ use Rattle.format.specs.declared.Walk.{Walk}
 use Rattle.format.specs.declared.Walk.the-variants as walks
 use Rattle.leb128.specs.Formats.{u32}
 use Rattle.exprs.specs.Laws.{expr}
-use Rattle.texts.specs.Words.{word, span}
+use Rattle.words.specs.Words.{word}
+use Rattle.texts.specs.Spans.{span}
 use Rattle.texts.specs.declared.Span.{Span}
 use Rattle.types.specs.Words.{refWords}
 use Rattle.types.specs.Bytes.{refBytes}

@@ -9,8 +9,9 @@ use Rattle.format.specs.declared.Done.{Done}
 use Rattle.format.specs.declared.Walk.{Walk}
 use Rattle.format.specs.declared.Walk.the-variants as walks
 use Rattle.leb128.specs.Formats.{u32}
-use Rattle.texts.specs.Words.{word, span}
-use Rattle.types.specs.Vals.{unused}
+use Rattle.words.specs.Words.{word}
+use Rattle.texts.specs.Spans.{span}
+use Rattle.words.specs.Words.{unused}
 use Rattle.parts.specs.Text.{expression}
 use Rattle.parts.specs.Reading as reading
 use Rattle.parts.specs.Reading.{Reading, words-before}

@@ -17,7 +17,7 @@ use Rattle.format.specs.Walk.{Walked, Walks}
 use Rattle.format.specs.declared.Done.{Done}
 use Rattle.format.specs.declared.Walk.{Walk}
 use Rattle.exprs.specs.Grammar.{Expr, stop, more}
-use Rattle.types.specs.Vals.{unused}
+use Rattle.words.specs.Words.{unused}
 
 pub stands : (k : ℕ) (w : List ℕ) (at : ℕ) → at < length w → getD w at 0 ≡ k → drop at w ≡ k ∷ drop (at + 1) w
 stands k w at h e = rw (drop-more w at h, e)

@@ -6,7 +6,7 @@ use Prim.Native.Nat.{ℕ}
 use Rattle.format.specs.Lists.{many}
 use Rattle.format.specs.Agree.{many-agree}
 use Rattle.leb128.specs.Formats.{u32}
-use Rattle.texts.specs.Words.{word}
+use Rattle.words.specs.Words.{word}
 use Rattle.texts.specs.Section.{Section, textless, tagged}
 use Rattle.texts.specs.declared.Span.{Span}
 use Rattle.types.specs.Bytes.{nullOf, refBytes}

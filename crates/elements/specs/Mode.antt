@@ -10,7 +10,7 @@ use Rattle.format.specs.Basic.{bit, tag, lit, empty, flag}
 use Rattle.format.specs.Combine.{pair, iso}
 use Rattle.format.specs.Alternatives.{Heads, is, alt, heads-tag, heads-code, heads-pair}
 use Rattle.leb128.specs.Formats.{u32}
-use Rattle.texts.specs.Words.{word}
+use Rattle.words.specs.Words.{word}
 use Rattle.texts.specs.Section.{Section, textless, tagged}
 use Rattle.texts.specs.declared.Span.{Span}
 use Rattle.parts.specs.Text.{expression}

@@ -6,7 +6,8 @@ use Rattle.format.specs.Format.{Format}
 use Rattle.format.specs.Basic.{tag, flag}
 use Rattle.format.specs.Combine.{dep, pair}
 use Rattle.format.specs.Lists.{many}
-use Rattle.texts.specs.Words.{word, span}
+use Rattle.words.specs.Words.{word}
+use Rattle.texts.specs.Spans.{span}
 use Rattle.texts.specs.declared.Span.{Span}
 use Rattle.types.specs.Words.{refWords}
 use Rattle.types.specs.declared.RefType.{RefType}

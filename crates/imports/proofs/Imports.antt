@@ -22,7 +22,7 @@ use Rattle.format.specs.declared.Walk.the-variants as walks
 use Rattle.leb128.specs.Leb.{uleb}
 use Rattle.texts.specs.Judge.{textMost}
 use Rattle.texts.specs.Section.{Section}
-use Rattle.texts.specs.Words.{span}
+use Rattle.texts.specs.Spans.{span}
 use Rattle.texts.specs.Place.{sizedAt, textAt, stands, stands-not}
 use Rattle.texts.specs.declared.Span.{Span}
 use Rattle.texts.specs.declared.TextAt.{TextAt}

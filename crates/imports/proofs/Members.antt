@@ -17,7 +17,7 @@ use Rattle.leb128.specs.LebLaws.{leb-some}
 use Rattle.numbers.specs.Answers.{readU32}
 use Rattle.numbers.specs.declared.ReadU32.{ReadU32}
 use Rattle.numbers.specs.declared.ReadU32.the-variants as U32
-use Rattle.texts.specs.WordWalks.{AreWords}
+use Rattle.words.specs.WordWalks.{AreWords}
 use Rattle.texts.specs.declared.Span.{Span}
 use Rattle.parts.specs.Text.{name, nameBytes}
 use Rattle.parts.specs.Listed.{listed}

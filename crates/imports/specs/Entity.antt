@@ -10,7 +10,7 @@ use Rattle.format.specs.Basic.{find, table}
 use Rattle.format.specs.Combine.{dep, iso}
 use Rattle.format.specs.Agree.{Agree}
 use Rattle.leb128.specs.Formats.{u32}
-use Rattle.texts.specs.Words.{word}
+use Rattle.words.specs.Words.{word}
 use Rattle.texts.specs.Section.{Section, textless}
 use Rattle.tables.specs.TableType.{tableWords, tableBytes, table-agree, memoryWords, memoryBytes, memory-agree}
 use Rattle.tables.specs.GlobalType.{globalWords, globalBytes, global-agree}

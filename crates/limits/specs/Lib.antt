@@ -1,4 +1,3 @@
 -- Limits: words and bytes over one abstract syntax.
-pub mod Number64
 pub mod Flags
 pub mod Limits

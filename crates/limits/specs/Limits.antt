@@ -8,8 +8,8 @@ use Rattle.format.specs.Basic.{empty}
 use Rattle.format.specs.Combine.{pair, dep, iso}
 use Rattle.format.specs.Agree.{Agree, agree-same, pair-agree}
 use Rattle.leb128.specs.Formats.{u64}
-use Rattle.types.specs.Vals.{unused}
-use Rattle.limits.specs.Number64.{number64}
+use Rattle.words.specs.Words.{unused}
+use Rattle.words.specs.Number64.{number64}
 use Rattle.limits.specs.Flags.{Flags, flags}
 use Rattle.limits.specs.declared.Maximum.{Maximum}
 use Rattle.limits.specs.declared.Maximum.the-variants.{None, Some}

@@ -4,7 +4,6 @@ mod writer;
 
 pub use reader::read_limits;
 pub use writer::walk_limits;
-pub use writer::walk_unused;
 
 // A maximum size, or that there is none.
 pub enum Maximum {

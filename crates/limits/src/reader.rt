@@ -2,38 +2,23 @@
 use format::Done;
 use format::Walk;
 use format::append_word;
-use numbers::ReadU64;
-use texts::Span;
-use texts::append_span;
+use format::append_words;
+use words::read_number64;
 ghost use Rattle.format.specs.Count.{silent};
 ghost use Rattle.format.specs.Walk.{Walks};
-ghost use Rattle.leb128.specs.Formats.{u64};
-ghost use Rattle.limits.specs.Number64.{number64};
 ghost use Rattle.limits.specs.Limits.{sizesWords, sizesBytes, limitsWords, limitsBytes};
-
-// A 64-bit number, as low word, high word.
-fn read_size(b: &[u8], at: usize, out: &mut [u32], s: Done) -> Walk
-    ensures { λ r. ⌜ Walks u64 (number64 .print) silent (now (b .entry)) at (now (out .entry)) s (now (out .exit)) r ⌝ }
-{
-    let ReadU64::Value(v, p) = numbers::decode_u64(b, at) else {
-        return Walk::No;
-    };
-    let t = append_word((v & 0xFFFF_FFFF) as u32, out, s);
-    Walk::Got(p, append_word((v >> 32) as u32, out, t))
-}
 
 // The minimum, and the maximum if there is one.
 fn read_sizes(maximum: bool, b: &[u8], at: usize, out: &mut [u32], s: Done) -> Walk
     ensures { λ r. ⌜ Walks (sizesBytes maximum) (sizesWords maximum .print) silent (now (b .entry)) at (now (out .entry)) s (now (out .exit)) r ⌝ }
 {
-    let Walk::Got(p, t) = read_size(b, at, out, s) else {
+    let Walk::Got(p, t) = read_number64(b, at, out, s) else {
         return Walk::No;
     };
     if maximum {
-        return read_size(b, p, out, t);
+        return read_number64(b, p, out, t);
     }
-    let none = Span { start: 0, len: 0 };
-    Walk::Got(p, append_span(none, out, t))
+    Walk::Got(p, append_words(&[0, 0], out, t))
 }
 
 // Flags: bit 0 says that there is a maximum, bit 1 shared, bit 2 64-bit.

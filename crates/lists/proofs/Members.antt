@@ -18,9 +18,9 @@ use Rattle.numbers.specs.Answers.{readU32}
 use Rattle.numbers.specs.Decoded as bytes
 use Rattle.numbers.specs.declared.ReadU32.{ReadU32}
 use Rattle.numbers.specs.declared.ReadU32.the-variants as U32
-use Rattle.texts.specs.Words.{word}
-use Rattle.texts.specs.WordWalks.{AreWords}
-use Rattle.texts.specs.WordWalks as words
+use Rattle.words.specs.Words.{word}
+use Rattle.words.specs.WordWalks.{AreWords}
+use Rattle.words.specs.WordWalks as words
 use Rattle.lists.specs.Member.{Value, memberWords, memberBytes, listWords, listBytes, words-long, bytes-long}
 use Rattle.lists.specs.declared.Member.{Member}
 

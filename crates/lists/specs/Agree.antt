@@ -1,7 +1,7 @@
 -- The lists that have words are those that have bytes (document 01, Records). Assumes nothing.
 use Rattle.format.specs.Agree.{Agree, many-agree}
 use Rattle.leb128.specs.Formats.{u32}
-use Rattle.texts.specs.Words.{word}
+use Rattle.words.specs.Words.{word}
 use Rattle.types.specs.Agree.{val-agree, field-agree}
 use Rattle.types.specs.Vals.{valWords, valBytes, fieldWords, fieldBytes}
 use Rattle.lists.specs.Member.{listWords, listBytes}

@@ -12,7 +12,7 @@ use Rattle.format.specs.Alternatives.{heads-long}
 use Rattle.format.specs.Lists.{many}
 use Rattle.leb128.specs.LebLaws.{leb-some}
 use Rattle.leb128.specs.Formats.{u32}
-use Rattle.texts.specs.Words.{word}
+use Rattle.words.specs.Words.{word}
 use Rattle.types.specs.Vals.{valWords, valBytes, isPacked, isPackedByte, val-not-packed, val-byte-not-packed, storageWords, storageBytes, field, fieldWords, fieldBytes}
 use Rattle.types.specs.declared.ValType.{ValType}
 use Rattle.types.specs.declared.FieldType.{FieldType}

@@ -2,9 +2,7 @@
 mod reader;
 mod writer;
 
-pub use reader::read_index;
 pub use reader::read_list;
-pub use writer::walk_index;
 pub use writer::walk_list;
 
 // What the members of a list are.

@@ -6,23 +6,15 @@ use format::append_word;
 use numbers::ReadU32;
 use vals::read_field;
 use vals::read_val;
+use words::read_index;
 ghost use Prim.Native.Nat.{_≤_};
 ghost use lib.ListN.{length};
 ghost use Rattle.format.specs.Count.{silent};
 ghost use Rattle.format.specs.Loop.{Members};
 ghost use Rattle.format.specs.Walk.{Walks};
 ghost use Rattle.leb128.specs.Formats.{u32};
-ghost use Rattle.texts.specs.Words.{word};
+ghost use Rattle.words.specs.Words.{word};
 ghost use Rattle.lists.specs.Member.{memberWords, memberBytes, listWords, listBytes};
-
-pub fn read_index(b: &[u8], at: usize, out: &mut [u32], s: Done) -> Walk
-    ensures { λ r. ⌜ Walks u32 (word .print) silent (now (b .entry)) at (now (out .entry)) s (now (out .exit)) r ⌝ }
-{
-    let ReadU32::Value(v, p) = numbers::decode_u32(b, at) else {
-        return Walk::No;
-    };
-    Walk::Got(p, append_word(v, out, s))
-}
 
 fn read_member(m: Member, b: &[u8], at: usize, out: &mut [u32], s: Done) -> Walk
     ensures { λ r. ⌜ Walks (memberBytes m) (memberWords m .print) silent (now (b .entry)) at (now (out .entry)) s (now (out .exit)) r ⌝ }

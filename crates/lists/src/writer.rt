@@ -5,23 +5,15 @@ use format::Walk;
 use numbers::append_u32;
 use vals::walk_field;
 use vals::walk_val;
+use words::walk_index;
 ghost use Prim.Native.Nat.{_≤_};
 ghost use lib.ListN.{length};
 ghost use Rattle.format.specs.Count.{silent};
 ghost use Rattle.format.specs.Loop.{Members};
 ghost use Rattle.format.specs.Walk.{Walks};
 ghost use Rattle.leb128.specs.Formats.{u32};
-ghost use Rattle.texts.specs.Words.{word};
+ghost use Rattle.words.specs.Words.{word};
 ghost use Rattle.lists.specs.Member.{memberWords, memberBytes, listWords, listBytes};
-
-pub fn walk_index(words: &[u32], at: usize, out: &mut [u8], s: Done) -> Walk
-    ensures { λ r. ⌜ Walks word (u32 .print) silent (now (words .entry)) at (now (out .entry)) s (now (out .exit)) r ⌝ }
-{
-    if words.len() <= at {
-        return Walk::No;
-    }
-    Walk::Got(at + 1, append_u32(words[at], out, s))
-}
 
 fn walk_member(m: Member, words: &[u32], at: usize, out: &mut [u8], s: Done) -> Walk
     ensures { λ r. ⌜ Walks (memberWords m) (memberBytes m .print) silent (now (words .entry)) at (now (out .entry)) s (now (out .exit)) r ⌝ }

@@ -23,8 +23,8 @@ use Rattle.leb128.specs.LebLaws.{leb-some}
 use Rattle.exprs.specs.Laws.{expr}
 use Rattle.names.specs.Name.{isName}
 use Rattle.texts.specs.Text.{cut-is}
-use Rattle.texts.specs.Words.{span, span-at}
-use Rattle.texts.specs.WordWalks.{AreWords}
+use Rattle.texts.specs.Spans.{span, span-at}
+use Rattle.words.specs.WordWalks.{AreWords}
 use Rattle.texts.specs.Place.{spanAt, sizedAt, textAt, Stands, stands, stands-not}
 use Rattle.texts.specs.Held.{Holds, sized-held}
 use Rattle.texts.specs.declared.Span.{Span}

@@ -19,8 +19,8 @@ use Rattle.numbers.specs.declared.ReadU32.{ReadU32}
 use Rattle.numbers.specs.declared.ReadU32.the-variants as U32
 use Rattle.texts.specs.Section.{Section}
 use Rattle.texts.specs.Text.{lowestOf}
-use Rattle.texts.specs.Words.{word}
-use Rattle.texts.specs.WordWalks.{AreWords, word-long, more-than-words, members-behind}
+use Rattle.words.specs.Words.{word}
+use Rattle.words.specs.WordWalks.{AreWords, word-long, more-than-words, members-behind}
 use Rattle.parts.specs.Listed.{each, length-each, textsOf, locates, length-locates, listed}
 use Rattle.parts.specs.Reading.{Reading, recordAt}
 use Rattle.parts.specs.Writing.{Writing, itemOf, lowOf, lowest-both, lowest-behind}

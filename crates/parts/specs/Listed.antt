@@ -9,7 +9,7 @@ use Rattle.texts.specs.Allowed.{Allowed}
 use Rattle.texts.specs.Judge.{textMost}
 use Rattle.texts.specs.Section.{Section}
 use Rattle.texts.specs.Text.{Kind}
-use Rattle.texts.specs.Words.{word}
+use Rattle.words.specs.Words.{word}
 use Rattle.texts.specs.declared.Span.{Span}
 use Rattle.parts.specs.Both.{stood, first-stood, second-stood, at-first, at-second, all-both, all-each}
 

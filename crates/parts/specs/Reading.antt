@@ -19,7 +19,7 @@ use Rattle.format.specs.declared.Walk.the-variants as walks
 use Rattle.texts.specs.Section.{Section, textless}
 use Rattle.texts.specs.Text.{Kind}
 use Rattle.texts.specs.Place.{textAt}
-use Rattle.texts.specs.Words.{span}
+use Rattle.texts.specs.Spans.{span}
 use Rattle.texts.specs.declared.Span.{Span}
 use Rattle.texts.specs.declared.TextAt.{TextAt}
 use Rattle.texts.specs.declared.TextAt.the-variants.{At, No}

@@ -14,7 +14,7 @@ use Rattle.leb128.specs.Formats.{u32}
 use Rattle.names.specs.Name.{isName, name-exactly}
 use Rattle.exprs.specs.Laws.{expr}
 use Rattle.texts.specs.Text.{Kind, named, constant, plain, sliceOf, long-in}
-use Rattle.texts.specs.Words.{span}
+use Rattle.texts.specs.Spans.{span}
 use Rattle.texts.specs.Place.{spanAt, sizedAt}
 use Rattle.texts.specs.Allowed.{IsKind}
 use Rattle.texts.specs.Held.{Holds, held, sized-held, held-allowed}

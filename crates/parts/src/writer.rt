@@ -8,7 +8,7 @@ use texts::append_expr;
 use texts::append_name;
 ghost use mathlib.Core.Path.{_≡_};
 ghost use lib.ListN.{drop};
-ghost use Rattle.texts.specs.Words.{span};
+ghost use Rattle.texts.specs.Spans.{span};
 ghost use Rattle.parts.specs.Text.{spanOf, name, expression, content};
 ghost use Rattle.parts.specs.Writing.{Writing};
 

@@ -20,7 +20,7 @@ use Rattle.format.specs.Walk.{Walks, nothing-there, value-there, walks-as}
 use Rattle.format.specs.declared.Done.{Done}
 use Rattle.format.specs.declared.Walk.{Walk}
 use Rattle.format.specs.declared.Walk.the-variants as walks
-use Rattle.texts.specs.Words.{word}
+use Rattle.words.specs.Words.{word}
 use Rattle.leb128.specs.Formats.{u32}
 use Rattle.format.specs.Lists.{prints}
 use Rattle.leb128.specs.Leb.{uleb}

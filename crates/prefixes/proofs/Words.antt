@@ -21,8 +21,8 @@ use Rattle.format.specs.declared.Walk.{Walk}
 use Rattle.format.specs.declared.Walk.the-variants as walks
 use Rattle.leb128.specs.Formats.{u32}
 use Rattle.leb128.specs.Leb.{uleb}
-use Rattle.texts.specs.Words.{word}
-use Rattle.texts.specs.WordWalks.{AreWords}
+use Rattle.words.specs.Words.{word}
+use Rattle.words.specs.WordWalks.{AreWords}
 use Rattle.lists.specs.Member.{listWords, listBytes}
 use Rattle.lists.specs.declared.Member.the-variants.{Index}
 use Rattle.prefixes.specs.Prefix.{supersWords, supersLead}

@@ -3,8 +3,8 @@ use format::Done;
 use format::Walk;
 use format::append_word;
 use lists::Member;
-use lists::read_index;
 use lists::read_list;
+use words::read_index;
 ghost use mathlib.Core.List.{_∷_};
 ghost use Rattle.format.specs.Alternatives.{opt};
 ghost use Rattle.format.specs.Basic.{flag};
@@ -14,7 +14,7 @@ ghost use Rattle.format.specs.Walk.{Walks};
 ghost use Rattle.leb128.specs.Formats.{u32, index};
 ghost use Rattle.lists.specs.Member.{listWords};
 ghost use Rattle.lists.specs.declared.Member.the-variants.{Index};
-ghost use Rattle.texts.specs.Words.{word};
+ghost use Rattle.words.specs.Words.{word};
 ghost use Rattle.prefixes.specs.Prefix.{supersWords, supersLead, someSupers};
 
 // k and an index, or neither.

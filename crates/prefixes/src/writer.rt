@@ -11,7 +11,7 @@ ghost use Rattle.format.specs.Leads.{mark, option};
 ghost use Rattle.format.specs.Count.{silent};
 ghost use Rattle.format.specs.Walk.{Walks};
 ghost use Rattle.leb128.specs.Formats.{u32};
-ghost use Rattle.texts.specs.Words.{word};
+ghost use Rattle.words.specs.Words.{word};
 ghost use Rattle.prefixes.specs.Prefix.{supersWords, supersLead};
 
 // k and an index, where the flag says that there is one.

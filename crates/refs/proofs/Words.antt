@@ -11,7 +11,7 @@ use Rattle.format.specs.Read.{drop-two}
 use Rattle.format.specs.Walk.{Walks, nothing-there, value-there}
 use Rattle.format.specs.declared.Done.{Done}
 use Rattle.format.specs.declared.Walk.the-variants as walks
-use Rattle.texts.specs.WordWalks.{AreWords}
+use Rattle.words.specs.WordWalks.{AreWords}
 use Rattle.types.specs.Words.{refOf, refWords, ref-words-at}
 use Rattle.types.specs.Answers.{refAns, ref-some, ref-none}
 use Rattle.types.specs.declared.RefType.{RefType}

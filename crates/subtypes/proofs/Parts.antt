@@ -7,7 +7,7 @@ use Rattle.format.specs.Count.{silent}
 use Rattle.format.specs.Leads.{mark, option, led-joins, led-made}
 use Rattle.format.specs.Sequence.{Joins, joins, pair-joins}
 use Rattle.leb128.specs.Formats.{u32}
-use Rattle.texts.specs.Words.{word}
+use Rattle.words.specs.Words.{word}
 use Rattle.composites.specs.Composite.{innerWords, innerBytes}
 use Rattle.prefixes.specs.Prefix.{supersWords, supersLead}
 use Rattle.subtypes.specs.SubType.{ofParts, descriptorBytes, descriptor-no-4C, inner-no-4D, sharedBytes, shared-no-prefix, describedWords, describedBytes, described-no-65, subWords, subBytes}

@@ -7,7 +7,7 @@ use Rattle.format.specs.Alternatives.{opt}
 use Rattle.format.specs.Agree.{Agree}
 use Rattle.format.specs.Leads.{option, mark}
 use Rattle.leb128.specs.Formats.{u32}
-use Rattle.texts.specs.Words.{word}
+use Rattle.words.specs.Words.{word}
 use Rattle.subtypes.specs.SubType.{subWords, subBytes}
 use Rattle.composites.specs.Agree.{inner-agree}
 use Rattle.prefixes.specs.Agree.{supers-agree}

@@ -11,7 +11,7 @@ use Rattle.format.specs.Combine.{pair, iso}
 use Rattle.format.specs.Alternatives.{Heads, opt}
 use Rattle.format.specs.Leads.{led, option, mark, heads-option, heads-mark}
 use Rattle.leb128.specs.Formats.{u32}
-use Rattle.texts.specs.Words.{word}
+use Rattle.words.specs.Words.{word}
 use Rattle.composites.specs.Composite.{Inner, innerWords, innerBytes, Kind, func, array, struct, cont, kindByte, heads-inner}
 use Rattle.prefixes.specs.Prefix.{supersWords, supersLead}
 

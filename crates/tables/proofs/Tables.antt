@@ -23,10 +23,11 @@ use Rattle.numbers.specs.Answers.{readU32}
 use Rattle.numbers.specs.Decoded.{number-missing, number-found, number-place}
 use Rattle.numbers.specs.declared.ReadU32.{ReadU32}
 use Rattle.numbers.specs.declared.ReadU32.the-variants as U32
-use Rattle.texts.specs.WordWalks.{AreWords, word-read}
+use Rattle.words.specs.WordWalks.{AreWords, word-read}
 use Rattle.types.specs.Words.{refWords}
 use Rattle.types.specs.Bytes.{refBytes}
-use Rattle.types.specs.Vals.{unused, valWords, valBytes}
+use Rattle.words.specs.Words.{unused}
+use Rattle.types.specs.Vals.{valWords, valBytes}
 use Rattle.limits.specs.Limits.{limitsWords, limitsBytes}
 use Rattle.parts.specs.Text.{expression}
 use Rattle.parts.specs.Both.{both}

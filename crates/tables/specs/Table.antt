@@ -12,7 +12,7 @@ use Rattle.format.specs.Alternatives.{is}
 use Rattle.format.specs.Told.{one}
 use Rattle.texts.specs.Section.{Section, textless}
 use Rattle.texts.specs.declared.Span.{Span}
-use Rattle.types.specs.Vals.{unused}
+use Rattle.words.specs.Words.{unused}
 use Rattle.parts.specs.Text.{expression}
 use Rattle.parts.specs.Both.{both, behind}
 use Rattle.parts.specs.Chosen.{chosen}

@@ -7,7 +7,7 @@ use Rattle.format.specs.Basic.{tag}
 use Rattle.format.specs.Combine.{iso}
 use Rattle.format.specs.Agree.{Agree}
 use Rattle.leb128.specs.Formats.{u32}
-use Rattle.texts.specs.Words.{word}
+use Rattle.words.specs.Words.{word}
 use Rattle.tables.specs.declared.TagKind.{TagKind}
 use Rattle.tables.specs.declared.TagKind.the-variants.{Exception}
 use Rattle.tables.specs.declared.TagType.{TagType}

@@ -1,8 +1,7 @@
 -- Texts of records: their words, what spans hold and draw, where an item's texts stand; answers 2 to 6, and reading after adding, once for all sections.
 pub mod Text
 pub mod Plain
-pub mod Words
-pub mod WordWalks
+pub mod Spans
 pub mod Place
 pub mod Allowed
 pub mod Held

@@ -13,7 +13,7 @@ ghost use Rattle.format.specs.Sized.{sized};
 ghost use Rattle.leb128.specs.Formats.{u32};
 ghost use Rattle.exprs.specs.Laws.{expr};
 ghost use Rattle.texts.specs.Judge.{textMost};
-ghost use Rattle.texts.specs.Words.{span};
+ghost use Rattle.texts.specs.Spans.{span};
 ghost use Rattle.texts.specs.Place.{spanAt, sizedAt, textAt};
 
 // Data behind its length.

@@ -5,4 +5,3 @@ pub mod Bytes
 pub mod Vals
 pub mod Agree
 pub mod Answers
-pub mod TwoWords

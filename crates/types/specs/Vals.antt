@@ -15,6 +15,7 @@ use Rattle.format.specs.Basic.{find, table, tag, lit, flag}
 use Rattle.format.specs.Sequence.{Joins, joins}
 use Rattle.format.specs.Combine.{pair, iso}
 use Rattle.format.specs.Alternatives.{Heads, is, alt, heads-alt, heads-code, heads-tag}
+use Rattle.words.specs.Words.{unused}
 use Rattle.types.specs.Abstract.{byte-range, byteOf}
 use Rattle.types.specs.Words.{refWords}
 use Rattle.types.specs.Bytes.{refBytes, heads-ref}
@@ -25,10 +26,7 @@ use Rattle.types.specs.declared.StorageType.{StorageType}
 use Rattle.types.specs.declared.StorageType.the-variants.{I8, I16, Val}
 use Rattle.types.specs.declared.FieldType.{FieldType}
 
--- a code in a record, k, h and x with h and x unused: 0
-abbrev pub unused : Format (Unit {0})
-unused = tag 0 (lit 0)
-
+-- a code in a record, k, h and x with h and x unused
 abbrev pub coded : {A : Type 0} (code : A → ℕ) (l : List A) → ((a : A) → code a < 256) → ((a : A) → find code l (code a) ≡ some a) → Format A
 coded code l small full = iso (pair (table 256 code l small full) unused) (λ a. (a, tt)) (λ p. p .0) (λ a. refl) (λ p. refl)
 

@@ -13,7 +13,7 @@ use Rattle.format.specs.Parsed.{fromOption}
 use Rattle.format.specs.Format.{Format}
 use Rattle.format.specs.Basic.{find, find-only, via, bit, bit-small, bit-one, eqb-bit}
 use Rattle.format.specs.Combine.{pair}
-use Rattle.texts.specs.Words.{word}
+use Rattle.words.specs.Words.{word}
 use Rattle.types.specs.Abstract.{abstracts, kindOf, kind-small, kind-full}
 use Rattle.types.specs.declared.HeapType.{HeapType}
 use Rattle.types.specs.declared.HeapType.the-variants.{Abstract, Concrete, Exact}

@@ -18,7 +18,8 @@ use Rattle.format.specs.declared.Walk.{Walk}
 use Rattle.format.specs.declared.Walk.the-variants as walks
 use Rattle.types.specs.Words.{refWords}
 use Rattle.types.specs.Bytes.{refBytes}
-use Rattle.types.specs.Vals.{unused, Num, nums, numKind, numByte, num-kind-small, num-kind-full, numVal, valFrom, valWords, valBytes, i32, i64, f32, f64, v128, i8, i16, Packed, packedKind, packedByte, packedStorage, storageFrom, storageWords, storageBytes}
+use Rattle.words.specs.Words.{unused}
+use Rattle.types.specs.Vals.{Num, nums, numKind, numByte, num-kind-small, num-kind-full, numVal, valFrom, valWords, valBytes, i32, i64, f32, f64, v128, i8, i16, Packed, packedKind, packedByte, packedStorage, storageFrom, storageWords, storageBytes}
 use Rattle.types.specs.Answers.{codeOr}
 use Rattle.types.specs.declared.ValType.the-variants.{Ref}
 use Rattle.types.specs.declared.StorageType.the-variants.{Val}

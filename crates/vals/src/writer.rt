@@ -8,7 +8,8 @@ ghost use mathlib.Core.List.{[], _∷_};
 ghost use Rattle.format.specs.Basic.{find, flag};
 ghost use Rattle.format.specs.Count.{silent};
 ghost use Rattle.format.specs.Walk.{Walks};
-ghost use Rattle.types.specs.Vals.{unused, nums, numKind, numByte, valWords, valBytes, storageWords, storageBytes, fieldWords, fieldBytes};
+ghost use Rattle.words.specs.Words.{unused};
+ghost use Rattle.types.specs.Vals.{nums, numKind, numByte, valWords, valBytes, storageWords, storageBytes, fieldWords, fieldBytes};
 ghost use Rattle.types.specs.Answers.{codeOr};
 
 // Two unused words, and the byte of a type that has no more.

@@ -1,6 +1,6 @@
 -- `composites::writer::walk_cont` meets its contract. Assumes nothing.
 use Rattle.format.specs.Walk.{nothing-left}
-use Rattle.texts.specs.WordWalks.{one-word}
+use Rattle.words.specs.WordWalks.{one-word}
 use borrow.Author.Needs.{needs}
 use Rattle.composites.proofs.writer.walk_cont.Statement.{statement}
 use Rattle.composites.proofs.writer.walk_cont.Tie as tie

@@ -1,5 +1,5 @@
 -- `data::reader::read_active` meets its contract: a memory and an expression. Assumes nothing.
-use Rattle.texts.specs.Words.{word}
+use Rattle.words.specs.Words.{word}
 use Rattle.parts.specs.Text.{expression}
 use Rattle.parts.specs.Reading.{textless-missing, follows-textless}
 use Rattle.data.specs.Target.{memoryIndexBytes, index-agree}

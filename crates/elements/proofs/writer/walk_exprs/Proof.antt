@@ -1,7 +1,7 @@
 -- `elements::writer::walk_exprs` meets its contract: the count, and then so many expressions. Assumes nothing.
 use Rattle.format.specs.Walk.{nothing-left}
 use Rattle.parts.specs.Text.{expression}
-use Rattle.texts.specs.WordWalks.{word-fits}
+use Rattle.words.specs.WordWalks.{word-fits}
 use Rattle.parts.specs.ListWalks.{list-larger, list-writes}
 use Rattle.elements.proofs.Lists.{word-each}
 use borrow.Author.Needs.{needs}

@@ -2,7 +2,7 @@
 use native.Mathlib.Omega.{arith}
 use Rattle.format.specs.Walk.{nothing-left}
 use Rattle.types.specs.Words.{refWords}
-use Rattle.types.specs.TwoWords.{one-left}
+use Rattle.words.specs.TwoWords.{one-left}
 use Rattle.refs.proofs.Words.{ref-words-missing}
 use Rattle.elements.proofs.Elements.{type-said, type-unsaid}
 use borrow.Author.Needs.{needs}

@@ -1,6 +1,6 @@
 -- `groups::writer::walk_many` meets its contract: the count, and then so many subtypes. Assumes nothing.
 use Rattle.format.specs.Walk.{nothing-left}
-use Rattle.texts.specs.WordWalks.{word-fits}
+use Rattle.words.specs.WordWalks.{word-fits}
 use Rattle.parts.specs.ListWalks.{list-larger, list-writes}
 use Rattle.groups.specs.RecGroup.{subType, sub-words-long}
 use borrow.Author.Needs.{needs}

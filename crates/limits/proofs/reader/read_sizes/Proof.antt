@@ -17,6 +17,7 @@ read-sizes-spec =
     (λ c κs. search needs)
     (λ c. search needs)
     (λ c. search (rest-follows ofBytes true))
+    (λ c. search needs)
     (λ c κs. search needs)
     (λ c. search needs)
     (λ c. search none-there))

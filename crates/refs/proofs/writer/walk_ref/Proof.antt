@@ -2,7 +2,7 @@
 use native.Mathlib.Omega.{arith}
 use Rattle.format.specs.Walk.{nothing-left}
 use Rattle.types.specs.Words.{refWords}
-use Rattle.types.specs.TwoWords.{one-left}
+use Rattle.words.specs.TwoWords.{one-left}
 use Rattle.refs.proofs.Words.{ref-words-missing, ref-words-there}
 use borrow.Author.Needs.{needs}
 use Rattle.refs.proofs.writer.walk_ref.Statement.{statement}

@@ -1,6 +1,6 @@
 -- `vals::writer::walk_unused` meets its contract. Assumes nothing.
 use Rattle.format.specs.Walk.{nothing-left}
-use Rattle.types.specs.TwoWords.{unused-short, first-used, second-used, both-unused}
+use Rattle.words.specs.TwoWords.{unused-short, first-used, second-used, both-unused}
 use borrow.Author.Needs.{needs}
 use Rattle.vals.proofs.writer.walk_unused.Statement.{statement}
 use Rattle.vals.proofs.writer.walk_unused.Tie as tie

@@ -1,9 +1,9 @@
--- `lists::reader::read_index` meets its contract. Assumes nothing.
+-- `words::reader::read_index` meets its contract. Assumes nothing.
 use Rattle.leb128.specs.Formats.{u32}
 use Rattle.numbers.specs.Decoded.{no-number, one-number}
 use borrow.Author.Needs.{needs}
-use Rattle.lists.proofs.reader.read_index.Statement.{statement}
-use Rattle.lists.proofs.reader.read_index.Tie as tie
+use Rattle.words.proofs.reader.read_index.Statement.{statement}
+use Rattle.words.proofs.reader.read_index.Tie as tie
 
 pub read-index-spec : {M : Type 1} → statement M
 read-index-spec =

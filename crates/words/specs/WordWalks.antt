@@ -16,7 +16,7 @@ use Rattle.format.specs.Counted.{CountedList, count-exceeds, members-follow}
 use Rattle.format.specs.declared.Done.{Done}
 use Rattle.format.specs.declared.Walk.{Walk}
 use Rattle.format.specs.declared.Walk.the-variants as walks
-use Rattle.texts.specs.Words.{word, word-at}
+use Rattle.words.specs.Words.{word, word-at}
 
 -- what a slice of words holds, as the borrow checker says it
 abbrev pub AreWords : List ℕ → Type 0

@@ -1,10 +1,10 @@
--- `limits::writer::walk_unused` meets its contract. Assumes nothing.
+-- `words::writer::walk_unused` meets its contract. Assumes nothing.
 use Rattle.format.specs.Count.{adds-nil}
 use Rattle.format.specs.Walk.{nothing-left}
-use Rattle.types.specs.TwoWords.{unused-short, first-used, second-used, both-unused}
+use Rattle.words.specs.TwoWords.{unused-short, first-used, second-used, both-unused}
 use borrow.Author.Needs.{needs}
-use Rattle.limits.proofs.writer.walk_unused.Statement.{statement}
-use Rattle.limits.proofs.writer.walk_unused.Tie as tie
+use Rattle.words.proofs.writer.walk_unused.Statement.{statement}
+use Rattle.words.proofs.writer.walk_unused.Tie as tie
 
 pub walk-unused-spec : {M : Type 1} → statement M
 walk-unused-spec =

@@ -1,16 +1,16 @@
--- `limits::writer::walk_size` meets its contract. Assumes nothing.
+-- `words::writer::walk_number64` meets its contract. Assumes nothing.
 use native.Mathlib.Omega.{arith}
 use Rattle.format.specs.Walk.{nothing-left}
-use Rattle.texts.specs.WordWalks.{word-fits}
-use Rattle.types.specs.TwoWords.{one-left}
-use Rattle.limits.specs.Number64.{number64}
-use Rattle.limits.proofs.Limits.{high-fits, both-fit, size-walks}
+use Rattle.words.specs.WordWalks.{word-fits}
+use Rattle.words.specs.TwoWords.{one-left}
+use Rattle.words.specs.Number64.{number64}
+use Rattle.words.proofs.Numbers.{high-fits, both-fit, number64-walks}
 use borrow.Author.Needs.{needs}
-use Rattle.limits.proofs.writer.walk_size.Statement.{statement}
-use Rattle.limits.proofs.writer.walk_size.Tie as tie
+use Rattle.words.proofs.writer.walk_number64.Statement.{statement}
+use Rattle.words.proofs.writer.walk_number64.Tie as tie
 
-pub walk-size-spec : {M : Type 1} → statement M
-walk-size-spec =
+pub walk-number64-spec : {M : Type 1} → statement M
+walk-number64-spec =
     tie.close
     (tie.spec
     (λ c. search nothing-left)
@@ -28,4 +28,4 @@ walk-size-spec =
     (λ c. search both-fit)
     (λ c κs. search needs)
     (λ c. search needs)
-    (λ c. search size-walks))
+    (λ c. search number64-walks))

@@ -1,4 +1,4 @@
--- A record's words (document 01, Records): a word is 32 bits, a span two words, start and length. Assumes nothing.
+-- A span in a record (document 01, Records): two words, start and length. Assumes nothing.
 use mathlib.Core.Path.{_≡_, refl}
 use mathlib.Core.List.{List}
 use Prim.Native.Nat.{ℕ, _+_, _<_, _≤_, _^_}
@@ -6,16 +6,10 @@ use lib.ListN.{length, getD, drop}
 use borrow.Author.Tests.{lt-ltb}
 use Rattle.format.specs.Parsed.{got}
 use Rattle.format.specs.Format.{Format}
-use Rattle.format.specs.Basic.{number}
 use Rattle.format.specs.Combine.{pair, iso}
-use Rattle.format.specs.Read.{drop-more, drop-two}
+use Rattle.format.specs.Read.{drop-two}
+use Rattle.words.specs.Words.{word}
 use Rattle.texts.specs.declared.Span.{Span}
-
-abbrev pub word : Format ℕ
-word = number (2 ^ 32)
-
-pub word-at : (w : List ℕ) (at : ℕ) → at < length w → getD w at 0 < 2 ^ 32 → word .parse (drop at w) ≡ got (getD w at 0) (drop (at + 1) w)
-word-at w at h k = rw (drop-more w at h, lt-ltb (getD w at 0) (2 ^ 32) k)
 
 abbrev pub span : Format Span
 span = iso (pair word word) (λ s. (s .start, s .len)) (λ p. record { start = p .0; len = p .1 }) (λ s. refl) (λ p. refl)

@@ -11,7 +11,7 @@ use Rattle.format.specs.Read.{drop-two, too-few}
 use Rattle.format.specs.Walk.{Walks, nothing-there, value-there}
 use Rattle.format.specs.declared.Done.{Done}
 use Rattle.format.specs.declared.Walk.the-variants as walks
-use Rattle.types.specs.Vals.{unused}
+use Rattle.words.specs.Words.{unused}
 
 pub one-left : {A : Type 0} (F : Format A) → ((a : A) → F .Ok a → 2 ≤ length (F .print a)) → {f : A → List ℕ} {g : A → ℕ} {w : List ℕ} {at : ℕ} {old : List ℕ} {s : Done} {new : List ℕ}
     → at < length w → length w - at < 2 → Walks F f g w at old s new walks.No

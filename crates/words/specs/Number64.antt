@@ -6,7 +6,7 @@ use native.Mathlib.Omega.{arith}
 use Rattle.format.specs.Format.{Format}
 use Rattle.format.specs.Basic.{via}
 use Rattle.format.specs.Combine.{pair}
-use Rattle.texts.specs.Words.{word}
+use Rattle.words.specs.Words.{word}
 
 -- the two words of a number
 pub halves : (lo hi n : ℕ) → lo < 2 ^ 32 → hi < 2 ^ 32 → some (lo + hi * 2 ^ 32) ≡ some n → (n < 2 ^ 64) × (_≡_ {A = ℕ × ℕ} (lo, hi) (n % 2 ^ 32, n / 2 ^ 32))

@@ -1,9 +1,9 @@
--- `lists::writer::walk_index` meets its contract. Assumes nothing.
+-- `words::writer::walk_index` meets its contract. Assumes nothing.
 use Rattle.format.specs.Walk.{nothing-left}
-use Rattle.texts.specs.WordWalks.{one-word}
+use Rattle.words.specs.WordWalks.{one-word}
 use borrow.Author.Needs.{needs}
-use Rattle.lists.proofs.writer.walk_index.Statement.{statement}
-use Rattle.lists.proofs.writer.walk_index.Tie as tie
+use Rattle.words.proofs.writer.walk_index.Statement.{statement}
+use Rattle.words.proofs.writer.walk_index.Tie as tie
 
 pub walk-index-spec : {M : Type 1} → statement M
 walk-index-spec =
