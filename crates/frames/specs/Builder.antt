@@ -1,6 +1,6 @@
 -- The builder's state: a fresh one, what a frame makes of it, the one that frames give, and what it says of a store (document 01, Store and module; Answers by
 -- number: 1, 7 and 9). What reads the state is here; definitions and contracts above hand it on whole. Assumes nothing.
-use mathlib.Core.Path.{_≡_, refl, ap}
+use mathlib.Core.Path.{_≡_, ap}
 use mathlib.Core.Bool.{Bool, true, false, _||_}
 use mathlib.Core.Option.{Option}
 use mathlib.Core.List.{List, [], _∷_, _++_}

@@ -2,32 +2,25 @@
 use mathlib.Core.Path.{_≡_, refl, sym, ap, subst, _∙_}
 use mathlib.Core.Bool.{Bool, false}
 use mathlib.Core.List.{List, [], _∷_}
-use Prim.Native.Nat.{ℕ, _+_, _-_, _*_, _/_, _^_, _<_, _≤_}
+use Prim.Native.Nat.{ℕ, _+_, _/_, _<_}
 use native.Mathlib.Omega.{arith}
 use lib.Bits.{bitAnd, and-mask}
 use lib.Dec.{eqb}
-use lib.ListN.{length, getD, drop}
-use mir.Syntax.{w32, w64}
-use mir.Val.{Fits}
+use lib.ListN.{length, getD}
 use borrow.Author.Tests.{lt-ltb, le-ltb}
 use Rattle.format.specs.Parsed.{map, map-map}
 use Rattle.format.specs.Format.{Format}
 use Rattle.format.specs.Basic.{empty}
 use Rattle.format.specs.Combine.{depPrint}
-use Rattle.format.specs.Count.{Appends, silent, adds-seq, adds-eq}
-use Rattle.format.specs.Read.{reading, told-found, told-nothing, drop-more, drop-two}
+use Rattle.format.specs.Count.{Appends, silent}
+use Rattle.format.specs.Read.{drop-more}
 use Rattle.format.specs.Sequence.{Joins, pair-joins, dep-known, first-missing, second-follows}
 use Rattle.format.specs.Dispatch.{Opens, opened}
 use Rattle.format.specs.Walk.{Walks, gone, nothing-there, value-there}
 use Rattle.format.specs.declared.Done.{Done}
 use Rattle.format.specs.declared.Walk.{Walk}
 use Rattle.format.specs.declared.Walk.the-variants as walks
-use Rattle.leb128.specs.Leb.{uleb}
 use Rattle.leb128.specs.Formats.{u64}
-use Rattle.numbers.specs.Answers.{readU64}
-use Rattle.numbers.specs.declared.ReadU64.{ReadU64}
-use Rattle.numbers.specs.declared.ReadU64.the-variants as U64
-use Rattle.words.specs.WordWalks.{AreWords}
 use Rattle.words.specs.Words.{unused}
 use Rattle.words.specs.Number64.{number64}
 use Rattle.limits.specs.Flags.{flags, flagsOf, flags-to-of}

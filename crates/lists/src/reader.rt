@@ -13,7 +13,6 @@ ghost use Rattle.format.specs.Count.{silent};
 ghost use Rattle.format.specs.Loop.{Members};
 ghost use Rattle.format.specs.Walk.{Walks};
 ghost use Rattle.leb128.specs.Formats.{u32};
-ghost use Rattle.words.specs.Words.{word};
 ghost use Rattle.lists.specs.Member.{memberWords, memberBytes, listWords, listBytes};
 
 fn read_member(m: Member, b: &[u8], at: usize, out: &mut [u32], s: Done) -> Walk

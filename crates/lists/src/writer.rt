@@ -12,7 +12,6 @@ ghost use Rattle.format.specs.Count.{silent};
 ghost use Rattle.format.specs.Loop.{Members};
 ghost use Rattle.format.specs.Walk.{Walks};
 ghost use Rattle.leb128.specs.Formats.{u32};
-ghost use Rattle.words.specs.Words.{word};
 ghost use Rattle.lists.specs.Member.{memberWords, memberBytes, listWords, listBytes};
 
 fn walk_member(m: Member, words: &[u32], at: usize, out: &mut [u8], s: Done) -> Walk

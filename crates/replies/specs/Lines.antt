@@ -13,7 +13,7 @@ use Rattle.format.specs.Lists.{All, all-more, prints}
 use Rattle.frames.specs.Builder as builder
 use Rattle.frames.specs.declared.State.{State}
 use Rattle.hex.specs.Line.{lineOf}
-use Rattle.lines.specs.Done.{Done, doing}
+use Rattle.lines.specs.Done.{doing}
 use Rattle.lines.specs.Answer.{answerLine}
 use Rattle.replies.specs.Input.{Kept, answerOf, ended, more, heard, hears, closed, heard-end, heard-other, closed-none, closed-line, fresh, says}
 
