@@ -2,21 +2,17 @@
 use mathlib.Core.Path.{_≡_, refl, sym, ap, _∙_}
 use mathlib.Core.Logic.{_↔_}
 use mathlib.Core.Bool.{Bool, false}
-use mathlib.Core.List.{List, [], _∷_, _++_, append-assoc}
+use mathlib.Core.List.{List, [], _∷_, _++_}
 use mathlib.Core.Option.{some}
-use Prim.Native.Nat.{ℕ, _+_, _/_, _%_, _≤_, _<_, _^_}
+use Prim.Native.Nat.{ℕ, _/_, _%_, _≤_, _<_, _^_}
 use native.Mathlib.Omega.{arith}
 use lib.Dec.{ltb}
-use lib.ListN.{length, take, drop, length-append}
-use lib.Seq.{take-at, length-take-le}
+use lib.ListN.{length}
 use borrow.Author.Tests.{le-ltb, ltb-false, le-leb}
-use Rattle.format.specs.Lists.{all-more, prints, prints-more}
-use Rattle.format.specs.Runs.{run, run-only, run-back}
 use Rattle.format.specs.Answers.{answer, NoneHolds, accepted-exactly, settled, settled-accepts, settled-exactly}
-use Rattle.format.specs.Write.{todo}
-use Rattle.frames.specs.Frames.{Frame, frame, frame-some, itemMost}
+use Rattle.frames.specs.Frames.{Frame, frame, itemMost}
 use Rattle.frames.specs.Ids.{idOf, id-among, id-small}
-use Rattle.frames.specs.Builder.{grown, framesIn, isOver, isFull, not-full}
+use Rattle.frames.specs.Builder.{grown, behind, framesIn, isOver, isFull, frames-more}
 use Rattle.frames.specs.declared.SectionId.{SectionId}
 use Rattle.frames.specs.declared.State.{State}
 
@@ -43,11 +39,11 @@ refused state xs n = record { number = n; state = state; store = xs }
 
 module _ (state : State) (xs : List ℕ) (s : SectionId) (item : List ℕ) where
   abbrev pub conditions : List (ℕ × Bool)
-  conditions = (1, isOver state xs) ∷ (6, isLarge item) ∷ (7, isFull state xs item) ∷ []
+  conditions = (1, isOver state xs) ∷ (6, isLarge item) ∷ (7, isFull state xs (length item)) ∷ []
 
   -- section id, item length and item stand from the room used on, the state grows by them, and no other byte changes
   abbrev pub appended : Outcome
-  appended = record { number = 0; state = grown state (framed s item); store = todo (state .used) (headBytes (idOf s) (length item) ++ item) xs }
+  appended = record { number = 0; state = grown state (framed s item); store = behind state (headBytes (idOf s) (length item) ++ item) xs }
 
   unfoldable pub appending : Outcome
   appending = settled (refused state xs) appended (answer conditions)
@@ -65,44 +61,30 @@ module _ (state : State) (xs : List ℕ) (s : SectionId) (item : List ℕ) where
   pub record Fits : Type 0 where
     pub over : isOver state xs ≡ false
     pub small : length item ≤ itemMost
-    pub room : state .used + length item + 5 ≤ length xs
+    pub room : isFull state xs (length item) ≡ false
 
   pub fits : Fits → appended ≡ appending
   unfolding appending
   fits h =
-      let e : answer conditions ≡ 0 = rw (h .over, le-ltb itemMost (length item) (h .small), not-full state xs item (h .room)) in
+      let e : answer conditions ≡ 0 = rw (h .over, le-ltb itemMost (length item) (h .small), h .room) in
       sym (settled-accepts (refused state xs) appended (answer conditions) e)
 
   pub sound : NoneHolds conditions → Fits
-  sound (a, (b, (c, _))) =
-      record { over = a; small = ltb-false itemMost (length item) b; room = ltb-false (length xs) (state .used + length item + 5) c }
+  sound (a, (b, (c, _))) = record { over = a; small = ltb-false itemMost (length item) b; room = c }
 
 -- ---- adding appends a frame
 
 pub frame-bytes : (f : Frame) → length (f .item) < 2 ^ 32 → frame .print f ≡ headBytes (f .id) (length (f .item)) ++ f .item
 frame-bytes f h = let e : length (f .item) / 256 / 256 / 256 % 256 ≡ length (f .item) / 256 / 256 / 256 = omega arith in rw e
 
-pub frames-appended : (state : State) (xs : List ℕ) (f : Frame) (fs : List Frame) → framesIn state xs ≡ some fs → frame .Ok f
-    → state .used + length (f .item) + 5 ≤ length xs → framesIn (grown state f) (todo (state .used) (frame .print f) xs) ≡ some (fs ++ (f ∷ []))
-frames-appended state xs f fs e ok h =
-    let used = state .used in
-    let i = run-only frame (take used xs) fs e in
-    let b = frame .print f in
-    let n : length (take used xs ++ b) ≡ used + length (f .item) + 5 = simp (length-append, length-take-le used xs (omega arith)) (omega arith) in
-    let at : take (used + length (f .item) + 5) (todo used b xs) ≡ take used xs ++ b =
-    ap (take (used + length (f .item) + 5)) (sym (append-assoc (take used xs) b (drop (used + length b) xs)))
-    ∙ take-at (take used xs ++ b) (drop (used + length b) xs) (used + length (f .item) + 5) n in
-    let p : take used xs ++ b ≡ prints (frame .print) (fs ++ (f ∷ [])) = ap (λ (l : List ℕ). l ++ b) (i .1) ∙ sym (prints-more (frame .print) fs f) in
-    ap (run frame) (at ∙ p) ∙ run-back frame frame-some (fs ++ (f ∷ [])) (all-more (frame .Ok) fs f (i .0) ok)
-
 pub framed-ok : (s : SectionId) (item : List ℕ) → length item ≤ itemMost → frame .Ok (framed s item)
 framed-ok s item l = ((id-small s, id-among s), (omega arith, le-leb (length item) itemMost l))
 
 -- what is appended is the frame's bytes
 pub appended-frame : (state : State) (xs : List ℕ) (s : SectionId) (item : List ℕ) → length item ≤ itemMost
-    → appended state xs s item ≡ record { number = 0; state = grown state (framed s item); store = todo (state .used) (frame .print (framed s item)) xs }
+    → appended state xs s item ≡ record { number = 0; state = grown state (framed s item); store = behind state (frame .print (framed s item)) xs }
 appended-frame state xs s item l =
-    ap (λ (p : List ℕ). record { number = 0; state = grown state (framed s item); store = todo (state .used) p xs }) (sym (frame-bytes (framed s item) (omega arith)))
+    ap (λ (p : List ℕ). record { number = 0; state = grown state (framed s item); store = behind state p xs }) (sym (frame-bytes (framed s item) (omega arith)))
 
 -- an accepted add appends its frame to those that the store holds
 pub adding-appends : (state : State) (xs : List ℕ) (s : SectionId) (item : List ℕ) (fs : List Frame) → framesIn state xs ≡ some fs
@@ -111,4 +93,4 @@ pub adding-appends : (state : State) (xs : List ℕ) (s : SectionId) (item : Lis
 adding-appends state xs s item fs e a =
     let h = sound state xs s item (zero-exactly state xs s item .0 a) in
     sym (ap (λ (o : Outcome). framesIn (o .state) (o .store)) (sym (appended-frame state xs s item (h .small)) ∙ fits state xs s item h))
-    ∙ frames-appended state xs (framed s item) fs e (framed-ok s item (h .small)) (h .room)
+    ∙ frames-more state xs (framed s item) fs e (framed-ok s item (h .small)) (h .room)

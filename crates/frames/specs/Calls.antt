@@ -13,11 +13,11 @@ use borrow.Author.Tests.{eq-eqb, eqb-true, ne-eqb}
 use Rattle.format.specs.Lists.{All}
 use Rattle.format.specs.Answers.{answer, settled, settled-exactly}
 use Rattle.format.specs.Runs.{run-none}
-use Rattle.format.specs.Write.{todo, length-todo}
+use Rattle.format.specs.Write.{length-todo}
 use Rattle.frames.specs.Frames.{Frame, frame, frame-some, frame-long, itemMost}
 use Rattle.frames.specs.Ids.{idOf, sections, id-among, by-id}
-use Rattle.frames.specs.Builder.{fresh, roomOf, stateOf, room-more, grown-is, framesIn, storeMost, isOver, isFull, within, not-over, frames-within}
-use Rattle.frames.specs.Append.{Outcome, refused, isLarge, framed, appended, appending, fits, sound, zero-exactly, framed-ok, frames-appended, appended-frame}
+use Rattle.frames.specs.Builder.{fresh, roomOf, stateOf, room-more, grown-is, same-state, behind, framesIn, storeMost, isOver, isFull, within, not-over, not-full, has-room, frames-within, frames-more}
+use Rattle.frames.specs.Append.{Outcome, refused, isLarge, framed, appended, appending, fits, sound, zero-exactly, framed-ok, appended-frame}
 use Rattle.frames.specs.Sums.{sum, sum-none, sum-one, sum-same, sum-add}
 use Rattle.frames.specs.Tally.{itemsOf}
 use Rattle.frames.specs.declared.SectionId.{SectionId}
@@ -29,7 +29,7 @@ module _ (Call : Type 0) (sec : Call → SectionId) (why : Call → ℕ) (item :
 
   -- an add: 1, then the call's own reason, then what appending its frame answers (document 01: 1 to 7, lowest first)
   abbrev pub judged : State → List ℕ → Call → List (ℕ × Bool)
-  judged state xs c = (1, isOver state xs) ∷ (why c, not (eqb (why c) 0)) ∷ (6, isLarge (item c)) ∷ (7, isFull state xs (item c)) ∷ []
+  judged state xs c = (1, isOver state xs) ∷ (why c, not (eqb (why c) 0)) ∷ (6, isLarge (item c)) ∷ (7, isFull state xs (length (item c))) ∷ []
 
   unfoldable pub adding : State → List ℕ → Call → Outcome
   adding state xs c = settled (refused state xs) (appended state xs (sec c) (item c)) (answer (judged state xs c))
@@ -71,20 +71,20 @@ module _ (Call : Type 0) (sec : Call → SectionId) (why : Call → ℕ) (item :
   more fs c = fs ++ (frameOf c ∷ [])
 
   abbrev after : List Frame → List ℕ → Call → Outcome
-  after fs xs c = record { number = 0; state = stateOf (more fs c); store = todo (stateOf fs .used) (frame .print (frameOf c)) xs }
+  after fs xs c = record { number = 0; state = stateOf (more fs c); store = behind (stateOf fs) (frame .print (frameOf c)) xs }
 
   sound-adds : (fs : List Frame) (xs : List ℕ) (c : Call) → Sound c → length xs ≤ storeMost → roomOf fs + size c ≤ length xs
       → adding (stateOf fs) xs c ≡ after fs xs c
   sound-adds fs xs c (e, l) m h =
       adding-plain (stateOf fs) xs c e
-      ∙ sym (fits (stateOf fs) xs (sec c) (item c) (record { over = not-over (frames-within fs xs m (omega arith)); small = l; room = omega arith }))
+      ∙ sym (fits (stateOf fs) xs (sec c) (item c) (record { over = not-over (frames-within fs xs m (omega arith)); small = l; room = not-full (stateOf fs) xs (length (item c)) (omega arith) }))
       ∙ appended-frame (stateOf fs) xs (sec c) (item c) l
-      ∙ ap (λ (s : State). record { number = 0; state = s; store = todo (stateOf fs .used) (frame .print (frameOf c)) xs }) (sym (grown-is fs (frameOf c)))
+      ∙ ap (λ (s : State). record { number = 0; state = s; store = behind (stateOf fs) (frame .print (frameOf c)) xs }) (sym (grown-is fs (frameOf c)))
 
   no-reason : (state : State) (xs : List ℕ) (c : Call) → adding state xs c .number ≡ 0 → why c ≡ 0
   unfolding adding
   no-reason state xs c e =
-      go (isOver state xs) (eqb (why c) 0) refl (answer ((6, isLarge (item c)) ∷ (7, isFull state xs (item c)) ∷ []))
+      go (isOver state xs) (eqb (why c) 0) refl (answer ((6, isLarge (item c)) ∷ (7, isFull state xs (length (item c))) ∷ []))
       (settled-exactly (refused state xs) (appended state xs (sec c) (item c)) (λ o. o .number) refl (λ n. refl) {P = answer (judged state xs c) ≡ 0} (λ q. q, λ q. q) .0 e)
     where
       go : (t u : Bool) → eqb (why c) 0 ≡ u → (n : ℕ) → cond t 1 (cond (not u) (why c) n) ≡ 0 → why c ≡ 0
@@ -110,7 +110,7 @@ module _ (Call : Type 0) (sec : Call → SectionId) (why : Call → ℕ) (item :
       let state = stateOf fs in
       let w = no-reason state xs c e in
       let f = sound state xs (sec c) (item c) (zero-exactly state xs (sec c) (item c) .0 (ap (λ (o : Outcome). o .number) (sym (adding-plain state xs c w)) ∙ e)) in
-      fits-adds fs xs c (w, f .small) (within state xs (f .over) .most) (omega (arith, f .room))
+      fits-adds fs xs c (w, f .small) (within state xs (f .over) .most) (omega (arith, has-room state xs (length (item c)) (f .room)))
 
   -- ---- a sequence
 
@@ -148,7 +148,7 @@ module _ (Call : Type 0) (sec : Call → SectionId) (why : Call → ℕ) (item :
       let b = adds-sound fs xs c (a .0) in
       let f = frameOf c in
       let g : framesIn (stateOf (more fs c)) (after fs xs c .store) ≡ some (more fs c) =
-      ap (λ (s : State). framesIn s (after fs xs c .store)) (grown-is fs f) ∙ frames-appended (stateOf fs) xs f fs e (framed-ok (sec c) (item c) (b .sound .1)) (omega (arith, b .room)) in
+      ap (λ (s : State). framesIn s (after fs xs c .store)) (grown-is fs f) ∙ frames-more (stateOf fs) xs f fs e (framed-ok (sec c) (item c) (b .sound .1)) (not-full (stateOf fs) xs (length (item c)) (omega (arith, b .room))) in
       let ih = ran (more fs c) (after fs xs c .store) cs g (rw (b .is) at (a .1)) in
       let all = append-assoc fs (f ∷ []) (map frameOf cs) in
       subst (λ (o : Outcome). Ran (adds (o .state) (o .store) cs) (length xs) (fs ++ (f ∷ map frameOf cs))) (sym (b .is))
@@ -224,10 +224,6 @@ module _ (Call : Type 0) (sec : Call → SectionId) (why : Call → ℕ) (item :
   same-items : (cs ds : List Call) → SameCalls cs ds → (i : ℕ) → itemsOf i (map frameOf cs) ≡ itemsOf i (map frameOf ds)
   same-items cs ds h i = items-are i cs ∙ ap (map item) (same-of cs ds h i) ∙ sym (items-are i ds)
 
-  -- the state does not: it depends on the room that all calls take
-  same-state : (cs ds : List Call) → SameCalls cs ds → stateOf (map frameOf cs) ≡ stateOf (map frameOf ds)
-  same-state cs ds h = ap (λ (n : ℕ). record { used = n }) (same-total cs ds h)
-
   -- ---- any order
 
   -- if all calls of one sequence are accepted, so are all of the other
@@ -252,7 +248,7 @@ module _ (Call : Type 0) (sec : Call → SectionId) (why : Call → ℕ) (item :
       let p = ran [] xs cs (run-none frame frame-some) a in
       let q = ran [] ys ds (run-none frame frame-some) (any-order-accepted xs ys cs ds e h a) in
       record {
-        state = p .state ∙ same-state cs ds h ∙ sym (q .state);
+        state = p .state ∙ same-state (map frameOf cs) (map frameOf ds) (same-total cs ds h) ∙ sym (q .state);
         long = p .kept ∙ e ∙ sym (q .kept);
         first = p .holds;
         second = q .holds;

@@ -2,11 +2,12 @@
 use format::Written;
 use format::least;
 ghost use mathlib.Core.Path.{_≡_};
+ghost use Prim.Native.Nat.{_+_, _≤_};
 ghost use Rattle.format.specs.Write.{Writes};
 ghost use Rattle.format.specs.Runs.{run};
-ghost use Rattle.frames.specs.Frames.{valueOf, frame};
+ghost use Rattle.frames.specs.Frames.{valueOf, frame, itemMost};
 ghost use Rattle.frames.specs.Ids.{idOf, sections, among};
-ghost use Rattle.frames.specs.Builder.{fresh, isOver};
+ghost use Rattle.frames.specs.Builder.{fresh, grownBy, storeMost, isOver, isFull, Within};
 ghost use Rattle.frames.specs.Place.{frameAt};
 ghost use Rattle.frames.specs.Tally.{tallyOf};
 ghost use Rattle.frames.specs.Append.{headBytes};
@@ -27,6 +28,16 @@ impl State {
     {
         Self { used: 0 }
     }
+
+    // The state with the frame of an item of n bytes, in a store.
+    pub fn grown(self, n: usize) -> Self
+        requires { ⌜ self .used + n + 5 ≤ storeMost ⌝ }
+        ensures { λ r. ⌜ r ≡ grownBy self n ⌝ }
+    {
+        Self {
+            used: self.used + n + 5,
+        }
+    }
 }
 
 // Whether the store is over its limit, or the room used above its length.
@@ -38,6 +49,14 @@ pub fn is_over(state: State, store: &[u8]) -> bool
         return true;
     }
     store.len() < used
+}
+
+// Whether the frame of an item of n bytes has no room behind the room used.
+pub fn is_full(state: State, store: &[u8], n: usize) -> bool
+    requires { ⌜ Within state (now store) × (n ≤ itemMost) ⌝ }
+    ensures { λ r. ⌜ r ≡ isFull state (now (store .entry)) n ⌝ }
+{
+    store.len() < state.used + n + 5
 }
 
 // The sections that hold items.

@@ -6,11 +6,11 @@ use mathlib.Core.List.{List}
 use native.Mathlib.Omega.{arith}
 use lib.Dec.{eqb}
 use lib.IntN.{pos}
-use lib.ListN.{length, take, length-append, length-take}
+use lib.ListN.{length, length-append}
 use Rattle.leb128.specs.Leb.{unsigned, uleb}
 use Rattle.leb128.specs.LebLaws.{bytes-at-most}
 use Rattle.frames.specs.Frames.{framesOf, held}
-use Rattle.frames.specs.Builder.{framesIn, storeMost, isOver, within}
+use Rattle.frames.specs.Builder.{usedIn, framesIn, storeMost, isOver, within, used-long}
 use Rattle.frames.specs.declared.State.{State}
 use Rattle.frames.specs.Tally.{itemsOf, itemBytes, items-within}
 use Rattle.sections.specs.Section.{vector, contentsOf, dataCount}
@@ -21,8 +21,8 @@ five : (n : ℕ) → n < 2 ^ 32 → length (uleb n) ≤ 5
 five n h = bytes-at-most 4 unsigned (pos n) (omega arith)
 
 module _ (state : State) (store : List ℕ) (h : isOver state store ≡ false) (i : ℕ) where
-  few : length (itemsOf i (framesOf (take (state .used) store))) + length (itemBytes i (take (state .used) store)) ≤ storeMost
-  few = omega (arith, within state store h .most, items-within i (take (state .used) store), length-take (state .used) store)
+  few : length (itemsOf i (framesOf (usedIn state store))) + length (itemBytes i (usedIn state store)) ≤ storeMost
+  few = omega (arith, within state store h .most, items-within i (usedIn state store), used-long state store)
 
   pub count-fits : length (itemsOf i (held (framesIn state store))) < 2 ^ 32
   count-fits = omega (arith, few)
@@ -31,7 +31,7 @@ module _ (state : State) (store : List ℕ) (h : isOver state store ≡ false) (
   size-fits given k = go (eqb i dataCount)
     where
       own : length (vector (itemsOf i (held (framesIn state store)))) < 2 ^ 32
-      own = omega (arith, few, five (length (itemsOf i (framesOf (take (state .used) store)))) count-fits, length-append (uleb (length (itemsOf i (framesOf (take (state .used) store))))) (itemBytes i (take (state .used) store)))
+      own = omega (arith, few, five (length (itemsOf i (framesOf (usedIn state store)))) count-fits, length-append (uleb (length (itemsOf i (framesOf (usedIn state store))))) (itemBytes i (usedIn state store)))
 
       go : (t : Bool) → length (cond t (uleb (given .count)) (vector (itemsOf i (held (framesIn state store))))) < 2 ^ 32
       go true = omega (arith, five (given .count) k)

@@ -3,19 +3,19 @@ use mathlib.Core.Path.{_≡_, refl, sym, ap, _∙_}
 use mathlib.Core.Logic.{_↔_}
 use mathlib.Core.Bool.{Bool, true, false, cond}
 use mathlib.Core.List.{List, [], _∷_, _++_}
-use Prim.Native.Nat.{ℕ, _+_, _≤_, _<_}
+use Prim.Native.Nat.{ℕ}
 use native.Mathlib.Omega.{arith}
 use lib.Dec.{eqb}
 use lib.ListN.{length, take, drop}
-use borrow.Author.Tests.{lt-ltb, eq-eqb, ne-eqb}
+use borrow.Author.Tests.{eq-eqb, ne-eqb}
 use Rattle.format.specs.Answers.{answer, NoneHolds, given-exactly, accepted-exactly, answer-then, settled, settled-accepts, settled-refuses, settled-exactly, one-stands}
-use Rattle.frames.specs.Builder.{isOver, isFull, not-full}
+use Rattle.frames.specs.Builder.{isOver, isFull, Within}
 use Rattle.frames.specs.Append.{Outcome, refused, appended}
 use Rattle.frames.specs.declared.State.{State}
 use Rattle.texts.specs.Judge as judge
 use Rattle.texts.specs.Judge.{why, itemIn}
 use Rattle.items.specs.Record.{records}
-use Rattle.items.specs.Judging.{sectionIn}
+use Rattle.items.specs.Judging.{sectionIn, Tried}
 use Rattle.thriftbell.specs.declared.Added.{Added}
 
 -- what an answer stands for: the state is beside it
@@ -29,7 +29,7 @@ one-added = one-stands outcome (λ o. record { state = o .state; number = o .num
 module _ (state : State) (xs w t : List ℕ) where
   -- 1: the store; 2 to 6: the record and its text; 7: the room
   abbrev pub conditions : List (ℕ × Bool)
-  conditions = (1, isOver state xs) ∷ (judge.conditions records w t ++ ((7, isFull state xs (itemIn records w t)) ∷ []))
+  conditions = (1, isOver state xs) ∷ (judge.conditions records w t ++ ((7, isFull state xs (length (itemIn records w t))) ∷ []))
 
   -- its section's id, the item's length and the item stand from the room used on
   abbrev pub added : Outcome
@@ -62,8 +62,8 @@ module _ (state : State) (xs w t : List ℕ) where
   pub six-exactly : (adding .number ≡ 6) ↔ (NoneHolds (take 5 conditions) × (judge.isLarge records w t ≡ true))
   six-exactly = exactly (given-exactly 6 (judge.isLarge records w t) (take 5 conditions) (drop 6 conditions) (λ e. omega arith) refl refl)
 
-  pub seven-exactly : (adding .number ≡ 7) ↔ (NoneHolds (take 6 conditions) × (isFull state xs (itemIn records w t) ≡ true))
-  seven-exactly = exactly (given-exactly 7 (isFull state xs (itemIn records w t)) (take 6 conditions) [] (λ e. omega arith) refl refl)
+  pub seven-exactly : (adding .number ≡ 7) ↔ (NoneHolds (take 6 conditions) × (isFull state xs (length (itemIn records w t)) ≡ true))
+  seven-exactly = exactly (given-exactly 7 (isFull state xs (length (itemIn records w t))) (take 6 conditions) [] (λ e. omega arith) refl refl)
 
   pub zero-exactly : (adding .number ≡ 0) ↔ NoneHolds conditions
   zero-exactly = exactly (accepted-exactly conditions refl)
@@ -75,8 +75,8 @@ module _ (state : State) (xs w t : List ℕ) where
   refuses n z e = sym (ap (settled (refused state xs) added) e ∙ settled-refuses (refused state xs) added n z)
 
   -- 2 to 6 first, and then 7
-  pub then-room : answer (judge.conditions records w t ++ ((7, isFull state xs (itemIn records w t)) ∷ [])) ≡ cond (eqb (why records w t) 0) (cond (isFull state xs (itemIn records w t)) 7 0) (why records w t)
-  then-room = answer-then (judge.conditions records w t) ((7, isFull state xs (itemIn records w t)) ∷ []) refl
+  pub then-room : answer (judge.conditions records w t ++ ((7, isFull state xs (length (itemIn records w t))) ∷ [])) ≡ cond (eqb (why records w t) 0) (cond (isFull state xs (length (itemIn records w t))) 7 0) (why records w t)
+  then-room = answer-then (judge.conditions records w t) ((7, isFull state xs (length (itemIn records w t))) ∷ []) refl
 
   pub over : isOver state xs ≡ true → refused state xs 1 ≡ adding
   over h = refuses 1 (λ e. omega arith) (rw h)
@@ -86,11 +86,18 @@ module _ (state : State) (xs w t : List ℕ) where
     drawn n z e = refuses n z (rw h (then-room ∙ rw (ne-eqb (why records w t) 0 (λ q. z (sym e ∙ q))) e))
 
     module _ (e : why records w t ≡ 0) where
-      pub full : length xs < state .used + length (itemIn records w t) + 5 → refused state xs 7 ≡ adding
-      full m = refuses 7 (λ e. omega arith) (rw h (then-room ∙ rw (eq-eqb (why records w t) 0 e, lt-ltb (length xs) (state .used + length (itemIn records w t) + 5) m)))
+      pub full : isFull state xs (length (itemIn records w t)) ≡ true → refused state xs 7 ≡ adding
+      full m = refuses 7 (λ e. omega arith) (rw h (then-room ∙ rw (eq-eqb (why records w t) 0 e, m)))
 
-      pub fits : state .used + length (itemIn records w t) + 5 ≤ length xs → added ≡ adding
+      pub fits : isFull state xs (length (itemIn records w t)) ≡ false → added ≡ adding
       unfolding adding
       fits m =
-          let z : answer conditions ≡ 0 = rw h (then-room ∙ rw (eq-eqb (why records w t) 0 e, not-full state xs (itemIn records w t) m)) in
+          let z : answer conditions ≡ 0 = rw h (then-room ∙ rw (eq-eqb (why records w t) 0 e, m)) in
           sym (settled-accepts (refused state xs) added (answer conditions) z)
+
+-- a record that is accepted: none of them holds, its item has n bytes, and stands at the front of what was tried, where there was room
+pub record Accepted (state : State) (xs w t : List ℕ) (n : ℕ) (s : List ℕ) : Type 0 where
+  pub inside : Within state xs
+  pub sound : why records w t ≡ 0
+  pub tried : Tried w t n s
+  pub room : isFull state xs n ≡ false

@@ -56,8 +56,8 @@ same-answer : (state : State) (xs : List ℕ) (c : Call) → answer (calls.judge
 same-answer state xs c = ap (λ (n : ℕ). cond (isOver state xs) 1 n) (go (eqb (whyOf c) 0) refl ∙ sym (then-room state xs (c .0) (c .1)))
   where
     go : (b : Bool) → eqb (whyOf c) 0 ≡ b
-        → cond (not (eqb (whyOf c) 0)) (whyOf c) (cond (isLarge (itemOf c)) 6 (cond (isFull state xs (itemOf c)) 7 0))
-        ≡ cond (eqb (whyOf c) 0) (cond (isFull state xs (itemOf c)) 7 0) (whyOf c)
+        → cond (not (eqb (whyOf c) 0)) (whyOf c) (cond (isLarge (itemOf c)) 6 (cond (isFull state xs (length (itemOf c))) 7 0))
+        ≡ cond (eqb (whyOf c) 0) (cond (isFull state xs (length (itemOf c))) 7 0) (whyOf c)
     go true e =
         let f = fine records (c .0) (c .1) (eqb-true (whyOf c) 0 e) in
         let small : isLarge (itemOf c) ≡ false = rw (f .is) (le-ltb itemMost (length (records .item (c .1) (f .value))) (f .fits)) in

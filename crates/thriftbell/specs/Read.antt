@@ -164,6 +164,6 @@ module _ (id : ℕ) (bytes out : List ℕ) where
       go (Refused k) (Refused l) p q = let e = p ∙ sym q in (ap Refused (ap (λ (o : Outcome). o .number) e), ap (λ (o : Outcome). o .memory) e)
 
 -- a record of n words is put at the front of what was lent, where there is room for it, if its words stand at the front of what was tried, where there was room
-abbrev pub PutsWords : ℕ → List ℕ → ℕ → List ℕ → List ℕ → List ℕ → Type 0
-PutsWords id b n tried old new = (x : Item) (r : List ℕ) → beginsIn id b ≡ got x r → length (recordOf x) ≡ n → (n ≤ length tried → take n tried ≡ recordOf x)
-    → n ≤ wordsMost → n ≤ length old → new ≡ over (recordOf x) old
+pub record PutsWords (id : ℕ) (b : List ℕ) (n : ℕ) (tried old new : List ℕ) : Type 0 where
+  pub puts : (x : Item) (r : List ℕ) → beginsIn id b ≡ got x r → length (recordOf x) ≡ n → (n ≤ length tried → take n tried ≡ recordOf x)
+      → n ≤ wordsMost → n ≤ length old → new ≡ over (recordOf x) old

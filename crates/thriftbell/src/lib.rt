@@ -9,6 +9,7 @@ use format::copy_words;
 use format::count;
 use format::least;
 pub use frames::State;
+use frames::is_full;
 use frames::is_over;
 use items::Judged;
 pub use module::Finished;
@@ -30,7 +31,7 @@ pub use numbers::encode_u64;
 ghost use mathlib.Core.Path.{_≡_};
 ghost use Prim.Native.Nat.{_≤_};
 ghost use lib.ListN.{length};
-ghost use Rattle.thriftbell.specs.Add.{outcome, adding};
+ghost use Rattle.thriftbell.specs.Add.{Accepted, outcome, added, adding};
 ghost use Rattle.thriftbell.specs.Read.{outcome as readOutcome, reading, PutsWords};
 
 // What adding answers: 0, and the state with the frame's room used too; or a number of the table, and then nothing was changed.
@@ -39,7 +40,26 @@ pub struct Added {
     pub number: u32,
 }
 
-// What is judged is tried in the room that is lent for it, and put behind the room used once it is accepted.
+// The frame of a record that is accepted, behind the room used: its head, and its item as judging left it.
+fn put_frame(
+    state: State,
+    store: &mut [u8],
+    words: &[u32],
+    text: &[u8],
+    n: usize,
+    tried: &[u8],
+) -> State
+    requires { ⌜ Accepted state (now store) (now words) (now text) n (now tried) ⌝ }
+    ensures { λ r. ⌜ outcome (record { state = r; number = 0 }) (now (store .exit)) ≡ added state (now (store .entry)) (now (words .entry)) (now (text .entry)) ⌝ }
+{
+    let at = state.used;
+    let from = at + 5;
+    frames::put_head(words[0] as u8, n, &mut store[at..]);
+    items::put_item(words, text, n, tried, &mut store[from..]);
+    state.grown(n)
+}
+
+// What is judged is tried in the room that is lent for it, and put into the store once it is accepted.
 fn add_tried(state: State, store: &mut [u8], words: &[u32], text: &[u8], tried: &mut [u8]) -> Added
     ensures { λ r. ⌜ outcome r (now (store .exit)) ≡ adding state (now (store .entry)) (now (words .entry)) (now (text .entry)) ⌝ }
 {
@@ -49,7 +69,6 @@ fn add_tried(state: State, store: &mut [u8], words: &[u32], text: &[u8], tried: 
             number: 1,
         };
     }
-    let at = state.used;
     let mut n = 0;
     match items::judge(words, text, tried) {
         Judged::Refused(k) => return Added {
@@ -58,17 +77,13 @@ fn add_tried(state: State, store: &mut [u8], words: &[u32], text: &[u8], tried: 
         },
         Judged::Length(length) => n = length,
     }
-    let next = at + n + 5;
-    if store.len() < next {
+    if is_full(state, store, n) {
         return Added {
             state: state,
             number: 7,
         };
     }
-    let from = at + 5;
-    frames::put_head(words[0] as u8, n, &mut store[at..]);
-    items::put_item(words, text, n, tried, &mut store[from..]);
-    let grown = State { used: next };
+    let grown = put_frame(state, store, words, text, n, tried);
     Added {
         state: grown,
         number: 0,

@@ -1,0 +1,3 @@
+-- What the proofs of `thriftbell` share.
+pub mod Adding
+pub mod Reading
