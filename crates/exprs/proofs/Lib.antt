@@ -1,3 +1,4 @@
 -- What the proofs of `exprs` share.
 pub mod Steps
 pub mod Making
+pub mod Ends

@@ -83,9 +83,13 @@ scan k n [] = Nothing
 scan k n (b ∷ s) = onward (next k n b) (λ k n. scan k n s)
 
 -- the operand to come behind i bytes ends behind j, or no expression is found
-abbrev pub Passed : ℕ → ℕ → List ℕ → ℕ → ExprEnd → Type 0
-Passed k n s i (At j) = (i ≤ j) × (plus i (scan k n (drop i s)) ≡ plus j (scan 0 0 (drop j s)))
-Passed k n s i Nothing = plus i (scan k n (drop i s)) ≡ Nothing
+abbrev pub PassedTo : ℕ → ℕ → List ℕ → ℕ → ExprEnd → Type 0
+PassedTo k n s i (At j) = (i ≤ j) × (plus i (scan k n (drop i s)) ≡ plus j (scan 0 0 (drop j s)))
+PassedTo k n s i Nothing = plus i (scan k n (drop i s)) ≡ Nothing
+
+-- a record, so that `search` finds it among what is known
+pub record Passed (k n : ℕ) (s : List ℕ) (i : ℕ) (r : ExprEnd) : Type 0 where
+  pub to : PassedTo k n s i r
 
 abbrev pub exprEnd : List ℕ → ExprEnd
 exprEnd s = scan 0 0 s

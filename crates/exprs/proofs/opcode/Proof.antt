@@ -1,8 +1,7 @@
 -- `exprs::opcode` meets its contract. Assumes nothing.
-use mathlib.Core.Path.{_∙_}
-use borrow.Author.Tests.{ne-eqb}
 use Rattle.exprs.specs.Scan.{opcode}
 use borrow.Author.Needs.{needs}
+use Rattle.exprs.proofs.Ends.{other-code}
 use Rattle.exprs.proofs.opcode.Statement.{statement}
 use Rattle.exprs.proofs.opcode.Tie as tie
 
@@ -38,11 +37,5 @@ returns-8 : tie.Need-returns-8
 unfolding opcode
 returns-8 c = rw (c .if8 .taken)
 
-returns-9 : tie.Need-returns-9
-unfolding opcode
-returns-9 c =
-    let b = c .before .before .before .before .before .before .before .before .before .args .b in
-    c .arithmetic .ensures ∙ rw (ne-eqb b 0x0B (c .before .before .before .before .before .before .before .before .if1 .left), ne-eqb b 0x41 (c .before .before .before .before .before .before .before .if2 .left), ne-eqb b 0x42 (c .before .before .before .before .before .before .if3 .left), ne-eqb b 0x43 (c .before .before .before .before .before .if4 .left), ne-eqb b 0x44 (c .before .before .before .before .if5 .left), ne-eqb b 0x23 (c .before .before .before .if6 .left), ne-eqb b 0xD0 (c .before .before .if7 .left), ne-eqb b 0xD2 (c .before .if8 .left))
-
 pub opcode-spec : {M : Type 1} → statement M
-opcode-spec = tie.close (tie.spec returns returns-2 returns-3 returns-4 returns-5 returns-6 returns-7 returns-8 (λ c κs. search needs) returns-9)
+opcode-spec = tie.close (tie.spec returns returns-2 returns-3 returns-4 returns-5 returns-6 returns-7 returns-8 (λ c κs. search needs) (λ c. search other-code))
