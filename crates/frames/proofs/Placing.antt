@@ -4,6 +4,8 @@ use mathlib.Core.Bool.{Bool, true, false, cond}
 use mathlib.Core.List.{List, _∷_, _++_}
 use Prim.Native.Nat.{ℕ, _+_, _-_, _≤_, _<_, min}
 use native.Mathlib.Omega.{arith}
+use mir.Syntax.{w8}
+use mir.Val.{Fits}
 use lib.Dec.{eqb, leb}
 use lib.ListN.{length, take, drop, getD, length-append, length-drop}
 use borrow.Author.Tests.{lt-ltb, le-leb, lt-leb, ne-eqb}
@@ -43,8 +45,8 @@ frame-cut s h = go (frame .parse s) refl
         let l : length s ≡ length (frame .print f) + length t = ap length (frame .only s f t e .1) ∙ length-append (frame .print f) t in
         absurd (omega (arith, frame-long f))
 
-pub section-last : (i : ℕ) → (i ≡ 1 → ⊥) → (i ≡ 2 → ⊥) → (i ≡ 4 → ⊥) → (i ≡ 9 → ⊥) → eqb i 11 ≡ among sections i
-section-last i a b c d = rw (ne-eqb i 1 a, ne-eqb i 2 b, ne-eqb i 4 c, ne-eqb i 9 d) (last (eqb i 11))
+pub section-last : {i : ℕ} → (i ≡ 1 → ⊥) → (i ≡ 2 → ⊥) → (i ≡ 4 → ⊥) → (i ≡ 9 → ⊥) → eqb i 11 ≡ among sections i
+section-last {i} a b c d = rw (ne-eqb i 1 a, ne-eqb i 2 b, ne-eqb i 4 c, ne-eqb i 9 d) (last (eqb i 11))
   where
     last : (t : Bool) → t ≡ cond t true false
     last true = refl
@@ -54,10 +56,22 @@ no-parse : (s : List ℕ) (at : ℕ) → frame .parse (drop at s) ≡ fail → N
 unfolding frameAt
 no-parse s at e = sym (ap (placed s) e)
 
-pub no-head : (s : List ℕ) (at : ℕ) → length s < at + 5 → No ≡ frameAt s at
+no-head : (s : List ℕ) (at : ℕ) → length s < at + 5 → No ≡ frameAt s at
 no-head s at h = no-parse s at (frame-cut (drop at s) (omega (arith, length-drop at s)))
 
-module _ (s : List ℕ) (at : ℕ) (h : at + 5 ≤ length s) (bytes : (k : ℕ) → getD s k 0 < 256) where
+pub none-past : (s : List ℕ) (at : ℕ) → length s < at → No ≡ frameAt s at
+none-past s at h = no-head s at (omega arith)
+
+pub none-short : (s : List ℕ) (at : ℕ) → at ≤ length s → length s - at < 5 → No ≡ frameAt s at
+none-short s at h k = no-head s at (omega arith)
+
+module _ (s : List ℕ) (at : ℕ) (before : at ≤ length s) (some : 5 ≤ length s - at) (each : (k : ℕ) → Fits w8 (getD s k 0)) where
+  h : at + 5 ≤ length s
+  h = omega arith
+
+  bytes : (k : ℕ) → getD s k 0 < 256
+  bytes k = let f = each k in omega arith
+
   -- the id and the length that stand there
   abbrev idAt : ℕ
   idAt = getD s at 0
@@ -92,24 +106,29 @@ module _ (s : List ℕ) (at : ℕ) (h : at + 5 ≤ length s) (bytes : (k : ℕ) 
   left : length (drop (at + 5) s) ≡ length s - at - 5
   left = length-drop (at + 5) s ∙ omega arith
 
-  pub is-at : {n : ℕ} → n ≡ sizeAt → among sections idAt ≡ true → n ≤ min itemMost (length s - at - 5) → Is idAt (at + 5 + n) ≡ frameAt s at
-  unfolding frameAt
-  is-at {n} q e k =
-      let r = drop (at + 5) s in
-      let room : n ≤ length r = omega (arith, left) in
-      let m : length s - length (drop n r) ≡ at + 5 + n = omega (arith, left, length-drop n r) in
-      let p : frame .parse (drop at s) ≡ got (record { id = idAt; item = take n r }) (drop n r) =
-      parsed ∙ rw (← q, e, le-leb n itemMost (omega arith), le-leb n (length r) room) in
-      sym (ap (placed s) p ∙ ap (Is idAt) m)
+  module _ {t : Bool} (q : t ≡ among sections idAt) where
+    pub no-section : t ≡ false → No ≡ frameAt s at
+    no-section e = no-parse s at (parsed ∙ rw (sym q ∙ e))
 
-  pub no-section : among sections idAt ≡ false → No ≡ frameAt s at
-  no-section e = no-parse s at (parsed ∙ rw e)
+    module _ (e : t ≡ true) {n l : ℕ} (z : n ≡ sizeAt) (m : l ≡ min itemMost (length s - at - 5)) where
+      listed : among sections idAt ≡ true
+      listed = sym q ∙ e
 
-  pub no-size : among sections idAt ≡ true → min itemMost (length s - at - 5) < sizeAt → No ≡ frameAt s at
-  no-size e k = no-parse s at (parsed ∙ rw e (⊎-elim
-      (λ l. rw (le-leb sizeAt itemMost l, lt-leb sizeAt (length (drop (at + 5) s)) (omega (arith, left))))
-      (λ l. rw (lt-leb sizeAt itemMost l))
-      (fits-or sizeAt itemMost)))
+      pub is-at : n ≤ l → Is idAt (at + 5 + n) ≡ frameAt s at
+      unfolding frameAt
+      is-at k =
+          let r = drop (at + 5) s in
+          let room : n ≤ length r = omega (arith, left) in
+          let o : length s - length (drop n r) ≡ at + 5 + n = omega (arith, left, length-drop n r) in
+          let p : frame .parse (drop at s) ≡ got (record { id = idAt; item = take n r }) (drop n r) =
+          parsed ∙ rw (← z, listed, le-leb n itemMost (omega arith), le-leb n (length r) room) in
+          sym (ap (placed s) p ∙ ap (Is idAt) o)
+
+      pub no-size : l < n → No ≡ frameAt s at
+      no-size k = no-parse s at (parsed ∙ rw (← z) (rw listed (⊎-elim
+          (λ u. rw (le-leb n itemMost u, lt-leb n (length (drop (at + 5) s)) (omega (arith, left))))
+          (λ u. rw (lt-leb n itemMost u))
+          (fits-or n itemMost))))
 
 -- ---- what is found at a place
 

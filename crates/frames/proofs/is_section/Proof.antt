@@ -15,8 +15,5 @@ returns-3 c = rw (c .if3 .taken)
 returns-4 : tie.Need-returns-4
 returns-4 c = rw (c .if4 .taken)
 
-returns-5 : tie.Need-returns-5
-returns-5 c = section-last _ (c .before .before .before .if1 .left) (c .before .before .if2 .left) (c .before .if3 .left) (c .if4 .left)
-
 pub is-section-spec : {M : Type 1} → statement M
-is-section-spec = tie.close (tie.spec returns returns-2 returns-3 returns-4 returns-5)
+is-section-spec = tie.close (tie.spec returns returns-2 returns-3 returns-4 (λ c. search section-last))
