@@ -4,20 +4,25 @@ use mathlib.Core.Logic.{_⊎_, ⊎-elim}
 use mathlib.Core.Bool.{true, false}
 use mathlib.Core.Option.{Option, some, Option·none-ne-some}
 use mathlib.Core.List.{List, [], _∷_, _++_}
-use Prim.Native.Nat.{ℕ, _+_, _-_, _≤_, _<_}
+use Prim.Native.Nat.{ℕ, _+_, _-_, _≤_, _<_, _^_}
 use native.Mathlib.Omega.{arith}
+use mir.Syntax.{w64}
+use mir.Val.{Fits}
 use lib.ListN.{length, take, drop, getD, set, length-append, length-drop, length-set}
 use lib.Seq.{drop-at, getD-set-same, getD-set-other}
 use borrow.Rule.Slice.PartMut.{putMid, midOf}
 use Rattle.format.specs.Lists.{All, prints}
 use Rattle.format.specs.Runs.{run}
-use Rattle.format.specs.Write.{Writes, Room, writes, writes-as, told-length}
+use Rattle.format.specs.Write.{Writes, Room, writes, writes-as, told-length, rest-lent, same-long}
 use Rattle.format.specs.declared.Written.{Written}
 use Rattle.format.specs.declared.Written.the-variants.{Length}
 use Rattle.frames.specs.Frames.{Frame, frame, framesOf, held, noFrames}
 use Rattle.frames.specs.Place.{frameAt}
-use Rattle.frames.specs.Tally.{itemsOf, joined, itemBytes, tallyOf, total-at}
-use Rattle.frames.specs.declared.FrameAt.the-variants.{No}
+use Rattle.frames.specs.Tally.{itemsOf, joined, itemBytes, tallyOf, total-at, items-within}
+use Rattle.frames.specs.Builder.{storeMost}
+use Rattle.frames.specs.declared.Tallies.{Tallies}
+use Rattle.frames.specs.declared.FrameAt.{FrameAt}
+use Rattle.frames.specs.declared.FrameAt.the-variants.{Is, No}
 use Rattle.frames.proofs.Placing.{Begins}
 use Rattle.frames.proofs.Walking.{Walked, walk-none, walk-more, walk-stop, walk-done, items-other, begins-below}
 use Rattle.sections.specs.declared.Given.{Given}
@@ -26,7 +31,8 @@ use Rattle.sections.specs.Order.{orderIds, allAmong, Away, Once}
 use Rattle.sections.specs.Laid.{Plan, planOf, roomOf, Laid, Headed}
 use Rattle.sections.proofs.Lengths.{section-parts}
 use Rattle.sections.proofs.Copying.{some-of, items-bounded, joined-one}
-use Rattle.sections.proofs.Listed.{listed-all, section-is}
+use Rattle.sections.proofs.Finding.{frame-begins}
+use Rattle.sections.proofs.Listed.{listed-all, total-is, section-is}
 use Rattle.sections.proofs.Laying.{Spot, seek, laid-other, laid-all, within-room, within-put, writes-again}
 
 -- ---- the plan of the frames that bytes are
@@ -183,3 +189,57 @@ module _ {s order : List ℕ} {given : Given} {n : ℕ} {xs ys places : List ℕ
       let all : f .past ≡ framesOf s = sym (ap held (walk-done (f .walk) h)) in
       let laid : Laid (planIn s given) (λ i. itemBytes i s) places 0 order (f .bytes) = subst (λ (fs : List Frame). Laid (planIn s given) (λ i. joined (itemsOf i fs)) places 0 order (f .bytes)) all (f .laid) in
       writes-as (laid-all (sectionOf given (framesOf s)) laid (listed-all (Planned s given) (planned s given) order e)) (writes-again (g .done) (f .done))
+
+-- ---- the same, of whatever numbers the heads were written over whatever there was: the walk does not know them
+
+pub record Filled (s order : List ℕ) (n : ℕ) (xs start ys places : List ℕ) (at : ℕ) : Type 0 where
+  pub fills : (given : Given) (zs : List ℕ) → Headed (planIn s given) order zs xs start n → Filling s order given n xs ys places at
+
+-- what the writing of the heads asks
+pub totals-few : (s : List ℕ) {t : Tallies} → t ≡ tallyOf (run frame s) → length s ≤ storeMost → (i : ℕ) → i < 16 → getD (t .totals) i 0 ≤ storeMost
+totals-few s e l i h = omega (arith, total-is s i h (ap (λ (t : Tallies). t .totals) e), items-within i s)
+
+pub heads-room : (s : List ℕ) (t : Tallies) (given : Given) (order xs : List ℕ) → t ≡ tallyOf (run frame s) → allAmong orderIds order ≡ true
+    → length (prints (sectionOf given (framesOf s)) order) ≤ length xs → roomOf (planOf (t .counts) (t .totals) given) order ≤ length xs
+heads-room s t given order xs e a h = omega (arith, ap (λ (t : Tallies). roomOf (planOf (t .counts) (t .totals) given) order) e, plan-long s given order a)
+
+pub filled-none : {s order : List ℕ} {n : ℕ} {xs start : List ℕ} → noFrames (run frame s) ≡ false → Once order → Filled s order n xs start xs start 0
+filled-none e o = record { fills = λ given zs h. filling-none e o h }
+
+module _ {s order : List ℕ} {n : ℕ} {xs start ys places : List ℕ} {at : ℕ} (f : Filled s order n xs start ys places at) where
+  -- a frame is found
+  module _ (l : at < length s) {i end : ℕ} {r : FrameAt} (e : r ≡ Is i end) (d : r ≡ frameAt s at) where
+    pub filled-other : getD places i 0 ≤ 0 → Filled s order n xs start ys places end
+    filled-other z = record { fills = λ given zs h. filling-other (f .fills given zs h) l (frame-begins e s at d) z }
+
+    pub filled-item : {w : Written} {zs : List ℕ} → 0 < getD places i 0
+        → Writes (take (end - (at + 5)) (drop (at + 5) s)) (midOf (getD places i 0) (length ys - getD places i 0) ys) zs w
+        → Filled s order n xs start (putMid (getD places i 0) (length ys - getD places i 0) ys zs) (set places i (getD places i 0 + (end - (at + 5)))) end
+    filled-item p w = record { fills = λ given zs h. filling-item (f .fills given zs h) l (frame-begins e s at d) p w }
+
+  module _ (t : Tallies) (same : t ≡ tallyOf (run frame s)) (given : Given) {zs : List ℕ} (h : Headed (planOf (t .counts) (t .totals) given) order zs xs start n) where
+    heads : Headed (planIn s given) order zs xs start n
+    heads = subst (λ (t : Tallies). Headed (planOf (t .counts) (t .totals) given) order zs xs start n) same h
+
+    filling : Filling s order given n xs ys places at
+    filling = f .fills given zs heads
+
+    pub filled-long : length ys ≡ length zs
+    filled-long = same-long (filling .done) ∙ same-long (heads .done)
+
+    pub filled-stops : at < length s → {r : FrameAt} → r ≡ No → r ≡ frameAt s at → ⊥
+    filled-stops l e d = filling-stop filling l (sym e ∙ d)
+
+    module _ (l : at < length s) {i end : ℕ} {r : FrameAt} (e : r ≡ Is i end) (d : r ≡ frameAt s at) (p : 0 < getD places i 0) where
+      pub filled-starts : getD places i 0 ≤ length ys
+      filled-starts = filling-room filling l (frame-begins e s at d) p .start
+
+      pub filled-fits : length zs < 2 ^ 64 → Fits w64 (getD places i 0 + (end - (at + 5)))
+      filled-fits m =
+          let b = frame-begins e s at d in
+          let room = filling-room filling l b p in
+          let lent : length (midOf (getD places i 0) (length ys - getD places i 0) ys) ≡ length ys - getD places i 0 = ap length (rest-lent (getD places i 0) ys) ∙ length-drop (getD places i 0) ys in
+          record { fits = omega (arith, room .start, room .room, lent, filled-long, b .long) }
+
+    pub filled-done : length s ≤ at → allAmong orderIds order ≡ true → Writes (prints (sectionOf given (framesOf s)) order) zs ys (Length n)
+    filled-done l a = filling-done filling l a heads

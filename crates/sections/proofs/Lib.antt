@@ -1,5 +1,6 @@
 -- What the proofs of `sections` share.
 pub mod Lengths
+pub mod Finding
 pub mod Copying
 pub mod Listed
 pub mod Laying
