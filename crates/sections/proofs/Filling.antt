@@ -18,8 +18,7 @@ use Rattle.format.specs.declared.Written.{Written}
 use Rattle.format.specs.declared.Written.the-variants.{Length}
 use Rattle.frames.specs.Frames.{Frame, frame, framesOf, held, noFrames}
 use Rattle.frames.specs.Place.{frameAt}
-use Rattle.frames.specs.Tally.{itemsOf, joined, itemBytes, tallyOf, total-at, items-within}
-use Rattle.frames.specs.Builder.{storeMost}
+use Rattle.frames.specs.Tally.{itemsOf, joined, itemBytes, tallyOf, total-at}
 use Rattle.frames.specs.declared.Tallies.{Tallies}
 use Rattle.frames.specs.declared.FrameAt.{FrameAt}
 use Rattle.frames.specs.declared.FrameAt.the-variants.{Is, No}
@@ -32,7 +31,7 @@ use Rattle.sections.specs.Laid.{Plan, planOf, roomOf, Laid, Headed}
 use Rattle.sections.proofs.Lengths.{section-parts}
 use Rattle.sections.proofs.Copying.{some-of, items-bounded, joined-one}
 use Rattle.sections.proofs.Finding.{frame-begins}
-use Rattle.sections.proofs.Listed.{listed-all, total-is, section-is}
+use Rattle.sections.proofs.Listed.{listed-all, section-is}
 use Rattle.sections.proofs.Laying.{Spot, seek, laid-other, laid-all, within-room, within-put, writes-again}
 
 -- ---- the plan of the frames that bytes are
@@ -196,9 +195,6 @@ pub record Filled (s order : List ℕ) (n : ℕ) (xs start ys places : List ℕ)
   pub fills : (given : Given) (zs : List ℕ) → Headed (planIn s given) order zs xs start n → Filling s order given n xs ys places at
 
 -- what the writing of the heads asks
-pub totals-few : (s : List ℕ) {t : Tallies} → t ≡ tallyOf (run frame s) → length s ≤ storeMost → (i : ℕ) → i < 16 → getD (t .totals) i 0 ≤ storeMost
-totals-few s e l i h = omega (arith, total-is s i h (ap (λ (t : Tallies). t .totals) e), items-within i s)
-
 pub heads-room : (s : List ℕ) (t : Tallies) (given : Given) (order xs : List ℕ) → t ≡ tallyOf (run frame s) → allAmong orderIds order ≡ true
     → length (prints (sectionOf given (framesOf s)) order) ≤ length xs → roomOf (planOf (t .counts) (t .totals) given) order ≤ length xs
 heads-room s t given order xs e a h = omega (arith, ap (λ (t : Tallies). roomOf (planOf (t .counts) (t .totals) given) order) e, plan-long s given order a)

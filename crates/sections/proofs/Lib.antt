@@ -1,6 +1,7 @@
 -- What the proofs of `sections` share.
 pub mod Lengths
 pub mod Finding
+pub mod Behind
 pub mod Copying
 pub mod Listed
 pub mod Laying

@@ -3,7 +3,8 @@ use Prim.Native.Nat.{_-_}
 use lib.ListN.{length}
 use borrow.Author.Needs.{needs}
 use Rattle.sections.proofs.Finding.{id-below, id-fits, id-scaled, item-starts, item-within, item-fits, frame-less}
-use Rattle.sections.proofs.Filling.{totals-few, heads-room, Filled, filled-none, filled-other, filled-item, filled-long, filled-stops, filled-starts, filled-fits, filled-done}
+use Rattle.sections.proofs.Listed.{total-few}
+use Rattle.sections.proofs.Filling.{heads-room, Filled, filled-none, filled-other, filled-item, filled-long, filled-stops, filled-starts, filled-fits, filled-done}
 use Rattle.sections.proofs.once.put_once.Statement.{statement}
 use Rattle.sections.proofs.once.put_once.Tie as tie
 
@@ -19,7 +20,7 @@ put-once-spec =
     (tie.spec
     Inv-loop
     μ-loop
-    (λ c κs. search (totals-few, heads-room))
+    (λ c κs. search (total-few, heads-room))
     (λ c. search filled-none)
     (λ c κs. search needs)
     (λ c. search needs)
