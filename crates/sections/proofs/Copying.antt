@@ -3,22 +3,26 @@ use mathlib.Core.Path.{_≡_, refl, sym, ap, _∙_}
 use mathlib.Core.Bool.{false, true≢false}
 use mathlib.Core.Option.{Option, none, some, Option·none-ne-some}
 use mathlib.Core.List.{List, [], _∷_, _++_, append-nil}
-use Prim.Native.Nat.{ℕ, _+_, _-_, _≤_, _<_}
+use Prim.Native.Nat.{ℕ, _+_, _-_, _≤_, _<_, _^_}
 use mathlib.Core.Logic.{⊎-elim}
 use native.Mathlib.Omega.{arith}
-use lib.ListN.{length, take, drop, length-append}
+use mir.Syntax.{w64}
+use mir.Val.{Fits}
+use lib.ListN.{length, take, drop, length-append, length-drop}
 use borrow.Rule.Slice.PartMut.{putMid, midOf}
 use Rattle.format.specs.Lists.{prints-append, prints-more}
 use Rattle.format.specs.Runs.{run}
-use Rattle.format.specs.Write.{Writes, Room, writes, writes-as, writes-then, room-then, fitted, told-length, fits-or}
+use Rattle.format.specs.Write.{Writes, Room, writes, writes-as, writes-then, room-then, fitted, told-length, fits-or, rest-lent, same-long}
 use Rattle.format.specs.declared.Written.{Written}
 use Rattle.format.specs.declared.Written.the-variants.{Length}
 use Rattle.frames.specs.Frames.{Frame, frame, noFrames, held}
 use Rattle.frames.specs.Place.{frameAt}
 use Rattle.frames.specs.Tally.{itemsOf, joined, itemBytes}
-use Rattle.frames.specs.declared.FrameAt.the-variants.{No}
+use Rattle.frames.specs.declared.FrameAt.{FrameAt}
+use Rattle.frames.specs.declared.FrameAt.the-variants.{Is, No}
 use Rattle.frames.proofs.Placing.{Begins}
 use Rattle.frames.proofs.Walking.{Walked, walk-none, walk-more, walk-rest, walk-stop, walk-done, items-append, items-one, items-other}
+use Rattle.sections.proofs.Finding.{frame-begins}
 
 -- nothing was written
 pub wrote-none : (xs : List ℕ) → Writes [] xs xs (Length 0)
@@ -42,8 +46,8 @@ pub some-of : (o : Option (List Frame)) → noFrames o ≡ false → (all : List
 some-of none e = absurd (true≢false e)
 some-of (some all) e = (all, refl)
 
-pub copied-none : (s : List ℕ) (id total : ℕ) (xs : List ℕ) → noFrames (run frame s) ≡ false → total ≡ length (itemBytes id s) → total ≤ length xs → Copied s id total xs xs 0 0
-copied-none s id total xs e l h =
+pub copied-none : {s : List ℕ} {id total : ℕ} {xs : List ℕ} → noFrames (run frame s) ≡ false → total ≡ length (itemBytes id s) → total ≤ length xs → Copied s id total xs xs 0 0
+copied-none {s} {xs = xs} e l h =
     let (all, q) = some-of (run frame s) e in
     record { all = all; is = q; size = rw q at l; room = h; past = []; walk = walk-none s; done = wrote-none xs }
 
@@ -60,7 +64,7 @@ pub joined-one : (id : ℕ) (fs : List Frame) (f : Frame) → f .id ≡ id → j
 joined-one id fs f q = ap joined (items-one id fs f q) ∙ prints-more (λ l. l) (itemsOf id fs) (f .item)
 
 module _ {s : List ℕ} {id total : ℕ} {xs ys : List ℕ} {n at : ℕ} (c : Copied s id total xs ys n at) where
-  pub copied-more : n < total → at < length s
+  copied-more : n < total → at < length s
   copied-more h = ⊎-elim ended (λ k. k) (fits-or (length s) at)
     where
       ended : length s ≤ at → at < length s
@@ -69,10 +73,14 @@ module _ {s : List ℕ} {id total : ℕ} {xs ys : List ℕ} {n at : ℕ} (c : Co
           let (m, _, _) = told-length (c .done) refl in
           absurd (omega (arith, c .size, ap (λ (l : List Frame). length (joined (itemsOf id l))) e))
 
-  pub copied-stop : n < total → No ≡ frameAt s at → ⊥
-  copied-stop h e = Option·none-ne-some (c .all) (sym (walk-stop (c .walk) (copied-more h) e) ∙ c .is)
+  pub copied-stops : n < total → {r : FrameAt} → r ≡ No → r ≡ frameAt s at → ⊥
+  copied-stops h e d = Option·none-ne-some (c .all) (sym (walk-stop (c .walk) (copied-more h) (sym e ∙ d)) ∙ c .is)
 
-  module _ (h : n < total) {i end : ℕ} (b : Begins s at i end) where
+  -- a frame is found
+  module _ (h : n < total) {i end : ℕ} {r : FrameAt} (e : r ≡ Is i end) (d : r ≡ frameAt s at) where
+    b : Begins s at i end
+    b = frame-begins e s at d
+
     walk : Walked s (c .past ++ (b .here ∷ [])) end
     walk = walk-more (c .walk) (copied-more h) b
 
@@ -86,14 +94,19 @@ module _ {s : List ℕ} {id total : ℕ} {xs ys : List ℕ} {n at : ℕ} (c : Co
       one : joined (itemsOf id (c .past ++ (b .here ∷ []))) ≡ joined (itemsOf id (c .past)) ++ b .here .item
       one = joined-one id (c .past) (b .here) (b .is ∙ q)
 
-      pub copied-room : Room (b .here .item) ys n
-      copied-room = room-then (b .here .item) (c .done) (omega (arith, items-bounded (c .is) id walk, ap length one, c .size, c .room))
+      left : Room (b .here .item) ys n
+      left = room-then (b .here .item) (c .done) (omega (arith, items-bounded (c .is) id walk, ap length one, c .size, c .room))
 
-      pub copied-item : {r : Written} {zs : List ℕ} → Writes (take (end - (at + 5)) (drop (at + 5) s)) (midOf n (length ys - n) ys) zs r
+      pub copied-fits : length xs < 2 ^ 64 → Fits w64 (n + (end - (at + 5)))
+      copied-fits m =
+          let lent : length (midOf n (length ys - n) ys) ≡ length ys - n = ap length (rest-lent n ys) ∙ length-drop n ys in
+          record { fits = omega (arith, left .start, left .room, lent, same-long (c .done), b .long) }
+
+      pub copied-item : {w : Written} {zs : List ℕ} → Writes (take (end - (at + 5)) (drop (at + 5) s)) (midOf n (length ys - n) ys) zs w
           → Copied s id total xs (putMid n (length ys - n) ys zs) (n + (end - (at + 5))) end
-      copied-item {r} {zs} w =
+      copied-item w =
           let l : length (b .here .item) ≡ end - (at + 5) = omega (arith, b .long) in
-          let u = writes-then (c .done) (fitted (writes-as (sym (b .item)) w) (copied-room .room)) in
+          let u = writes-then (c .done) (fitted (writes-as (sym (b .item)) w) (left .room)) in
           copied (rw (one, ← l) u)
 
   pub copied-done : total ≤ n → Writes (itemBytes id s) xs ys (Length n)

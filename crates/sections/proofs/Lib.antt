@@ -2,6 +2,7 @@
 pub mod Lengths
 pub mod Finding
 pub mod Behind
+pub mod OneSection
 pub mod Copying
 pub mod Listed
 pub mod Laying

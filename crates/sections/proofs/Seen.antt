@@ -1,5 +1,7 @@
 -- How far the look for an id that an order list has twice has come. Assumes nothing.
-use mathlib.Core.Path.{_≡_, sym, subst, _∙_, ap}
+use mathlib.Core.Path.{_≡_, refl, sym, subst, _∙_, ap}
+use mathlib.Core.Logic.{_↔_}
+use mathlib.Core.Bool.{true, false, true≢false}
 use mathlib.Core.List.{List, [], _∷_, _++_}
 use Prim.Native.Nat.{ℕ, zero, suc, _+_, _≤_, _<_}
 use native.Mathlib.Numerals.{add-one}
@@ -7,7 +9,9 @@ use native.Mathlib.Omega.{arith}
 use lib.ListN.{length, take, getD, set, length-set}
 use lib.Seq.{take-suc, take-all, getD-set-same, getD-set-other}
 use Rattle.format.specs.Lists.{All, all-more}
-use Rattle.sections.specs.Order.{Away, Once}
+use Rattle.frames.specs.Tally.{table, table-at}
+use Rattle.sections.specs.Order.{orderIds, allAmong, Away, Once}
+use Rattle.sections.proofs.Listed.{next-below}
 
 -- ---- lists of ids
 
@@ -34,6 +38,15 @@ once-more : (order : List ℕ) (i : ℕ) → Once order → Away i order → Onc
 once-more [] i o a = (tt, tt)
 once-more (j ∷ order) i o a = (all-more (λ k. k ≡ j → ⊥) order i (o .0) (λ e. a .0 (sym e)), once-more order i (o .1) (a .1))
 
+-- ---- a table of what is noted, where nothing is
+
+abbrev pub zeros : List ℕ
+zeros = 0 ∷ 0 ∷ 0 ∷ 0 ∷ 0 ∷ 0 ∷ 0 ∷ 0 ∷ 0 ∷ 0 ∷ 0 ∷ 0 ∷ 0 ∷ 0 ∷ 0 ∷ 0 ∷ []
+
+pub zeros-at : (i : ℕ) → i < 16 → getD zeros i 0 ≡ 0
+unfolding table
+zeros-at i h = table-at 16 (λ j. 0) i h
+
 -- ---- the look
 
 -- no id is among the first j twice, and 1 is noted for those that are there
@@ -43,13 +56,14 @@ pub record Seen (order seen : List ℕ) (j : ℕ) : Type 0 where
   pub others : (i : ℕ) → (getD seen i 0 ≡ 1 → ⊥) → Away i (take j order)
   pub noted : (i : ℕ) → i < 16 → getD seen i 0 ≡ 1 → Away i (take j order) → ⊥
 
-pub seen-none : (order seen : List ℕ) → length seen ≡ 16 → ((i : ℕ) → i < 16 → getD seen i 0 ≡ 0) → Seen order seen 0
-seen-none order seen l z = record { once = tt; few = l; others = λ i h. tt; noted = λ i b q a. omega (arith, z i b) }
+pub seen-none : {order : List ℕ} → Seen order zeros 0
+seen-none = record { once = tt; few = refl; others = λ i h. tt; noted = λ i b q a. omega (arith, zeros-at i b) }
 
 module _ {order seen : List ℕ} {j : ℕ} (s : Seen order seen j) where
-  pub seen-more : j < length order → getD order j 0 < 16 → (getD seen (getD order j 0) 0 ≡ 1 → ⊥) → Seen order (set seen (getD order j 0) 1) (j + 1)
-  seen-more h b n =
+  pub seen-more : j < length order → allAmong orderIds order ≡ true → (getD seen (getD order j 0) 0 ≡ 1 → ⊥) → Seen order (set seen (getD order j 0) 1) (j + 1)
+  seen-more h a n =
       let i = getD order j 0 in
+      let b = next-below order j a h in
       let f = s .few in
       record {
         once = subst Once (sym (take-more order j h)) (once-more (take j order) i (s .once) (s .others i n));
@@ -64,8 +78,8 @@ module _ {order seen : List ℕ} {j : ℕ} (s : Seen order seen j) where
       }
 
   -- an id was noted before
-  pub seen-twice : j < length order → getD order j 0 < 16 → getD seen (getD order j 0) 0 ≡ 1 → Once order → ⊥
-  seen-twice h b q o = s .noted (getD order j 0) b q (once-at order j o h)
+  pub seen-twice : j < length order → allAmong orderIds order ≡ true → getD seen (getD order j 0) 0 ≡ 1 → (false ≡ true) ↔ Once order
+  seen-twice h a q = (λ e. absurd (true≢false (sym e)), λ o. absurd (s .noted (getD order j 0) (next-below order j a h) q (once-at order j o h)))
 
-  pub seen-all : length order ≤ j → Once order
-  seen-all h = subst Once (take-all j order h) (s .once)
+  pub seen-all : length order ≤ j → (true ≡ true) ↔ Once order
+  seen-all h = (λ e. subst Once (take-all j order h) (s .once), λ o. refl)
