@@ -1,19 +1,25 @@
 -- How far the writing of the heads of sections has come. Assumes nothing.
 use mathlib.Core.Path.{_≡_, refl, sym, ap, _∙_, subst}
+use mathlib.Core.Bool.{true}
 use mathlib.Core.List.{List, [], _∷_, _++_, append-assoc}
-use Prim.Native.Nat.{ℕ, zero, suc, _+_, _-_, _≤_, _<_}
+use Prim.Native.Nat.{ℕ, zero, suc, _+_, _-_, _≤_, _<_, _^_}
 use native.Mathlib.Omega.{arith}
+use mir.Syntax.{w64}
+use mir.Val.{Fits}
 use lib.ListN.{length, take, drop, getD, set, length-append, length-drop, length-set, take-append-drop}
-use lib.Seq.{length-take-le, drop-at, drop-drop, getD-set-same, getD-set-other}
+use lib.Seq.{take-all, length-take-le, drop-at, drop-drop, getD-set-same, getD-set-other}
 use borrow.Rule.Slice.PartMut.{putMid, midOf}
-use Rattle.format.specs.Write.{Writes, Room, writes, writes-as, writes-then, room-then, told-length, same-long}
+use Rattle.format.specs.Write.{Writes, Room, writes, writes-as, writes-then, room-then, told-length, same-long, within}
 use Rattle.format.specs.declared.Written.the-variants.{Length}
-use Rattle.sections.specs.Order.{Away}
-use Rattle.sections.specs.Laid.{Plan, roomOf, laid-none, Headed}
-use Rattle.sections.proofs.Seen.{all-less}
+use Rattle.sections.specs.declared.Given.{Given}
+use Rattle.sections.specs.Section.{headOf, saidOf}
+use Rattle.sections.specs.Order.{orderIds, allAmong, Away, Once}
+use Rattle.sections.specs.Laid.{Plan, planOf, roomOf, laid-none, Headed}
+use Rattle.sections.proofs.Listed.{next-below}
+use Rattle.sections.proofs.Seen.{all-less, take-more, once-at, zeros, zeros-at}
 use Rattle.sections.proofs.Laying.{laid-long, laid-next, laid-other}
 
-pub room-more : (p : Plan) (order : List ℕ) (k : ℕ) → k < length order → roomOf p (take k order) + (length (p .head (getD order k 0)) + p .total (getD order k 0)) ≤ roomOf p order
+room-more : (p : Plan) (order : List ℕ) (k : ℕ) → k < length order → roomOf p (take k order) + (length (p .head (getD order k 0)) + p .total (getD order k 0)) ≤ roomOf p order
 room-more p [] k h = absurd (omega arith)
 room-more p (i ∷ order) zero h = omega arith
 room-more p (i ∷ order) (suc k) h = omega (arith, room-more p order k (omega arith))
@@ -29,14 +35,14 @@ writes-more {a} {xs} {ys} {n} w k h =
     let z : t ≡ take k t ++ drop (length (a ++ take k t)) xs = sym (take-append-drop k t) ∙ ap (λ (l : List ℕ). take k t ++ l) (drop-drop k (length a) xs ∙ ap (λ (j : ℕ). drop j xs) (sym g)) in
     rw d (writes (omega arith) (omega arith) (m ∙ ap (λ (l : List ℕ). a ++ l) z ∙ sym (append-assoc a (take k t) (drop (length (a ++ take k t)) xs))))
 
-pub headed-none : (p : Plan) (xs places : List ℕ) → length places ≡ 16 → ((i : ℕ) → i < 16 → getD places i 0 ≡ 0) → Headed p [] xs xs places 0
+headed-none : (p : Plan) (xs places : List ℕ) → length places ≡ 16 → ((i : ℕ) → i < 16 → getD places i 0 ≡ 0) → Headed p [] xs xs places 0
 headed-none p xs places l z = record { bytes = []; laid = laid-none; done = writes (omega arith) refl refl; few = l; others = λ i h a. z i h }
 
-pub headed-as : {p : Plan} {order order' xs ys places : List ℕ} {n : ℕ} → order ≡ order' → Headed p order xs ys places n → Headed p order' xs ys places n
+headed-as : {p : Plan} {order order' xs ys places : List ℕ} {n : ℕ} → order ≡ order' → Headed p order xs ys places n → Headed p order' xs ys places n
 headed-as {p} {xs = xs} {ys = ys} {places = places} {n = n} e h = subst (λ (o : List ℕ). Headed p o xs ys places n) e h
 
 module _ {p : Plan} {order xs ys places : List ℕ} {n : ℕ} (h : Headed p order xs ys places n) (i : ℕ) (fits : roomOf p order + (length (p .head i) + p .total i) ≤ length xs) where
-  pub headed-room : Room (p .head i) ys n
+  headed-room : Room (p .head i) ys n
   headed-room = room-then (p .head i) (h .done) (omega (arith, laid-long (h .laid), length-append (h .bytes) (p .head i)))
 
   module _ (below : i < 16) (away : Away i order) {zs : List ℕ} {m : ℕ} (w : Writes (p .head i) (midOf n (length ys - n) ys) zs (Length m)) where
@@ -49,7 +55,7 @@ module _ {p : Plan} {order xs ys places : List ℕ} {n : ℕ} (h : Headed p orde
     abbrev gap : List ℕ
     gap = take (p .total i) (drop (n + m) out)
 
-    pub headed-more : Headed p (order ++ (i ∷ [])) xs out (set places i (n + m)) (n + m + p .total i)
+    headed-more : Headed p (order ++ (i ∷ [])) xs out (set places i (n + m)) (n + m + p .total i)
     headed-more =
         let (e, l, _) = told-length headed refl in
         let long : length (h .bytes ++ p .head i) ≡ length (h .bytes) + length (p .head i) = length-append (h .bytes) (p .head i) in
@@ -66,3 +72,40 @@ module _ {p : Plan} {order xs ys places : List ℕ} {n : ℕ} (h : Headed p orde
               let (c, d) = all-less (λ k. k ≡ j → ⊥) order i a in
               getD-set-other places i j (n + m) 0 (λ q. d (sym q)) ∙ h .others j b c;
         }
+
+-- ---- those of the first k sections of an order list
+
+pub record Heading (order : List ℕ) (given : Given) (counts totals xs ys places : List ℕ) (n k : ℕ) : Type 0 where
+  pub put : Headed (planOf counts totals given) (take k order) xs ys places n
+
+pub heading-none : {order : List ℕ} {given : Given} {counts totals xs : List ℕ} → Heading order given counts totals xs xs zeros 0 0
+heading-none = record { put = headed-none _ _ zeros refl zeros-at }
+
+module _ {order : List ℕ} {given : Given} {counts totals xs ys places : List ℕ} {n k : ℕ} (h : Heading order given counts totals xs ys places n k) where
+  -- c is the count that the next section says
+  module _ (l : k < length order) (c : ℕ) (d : c ≡ saidOf given (getD order k 0) (getD counts (getD order k 0) 0)) (r : roomOf (planOf counts totals given) order ≤ length xs) where
+    abbrev i : ℕ
+    i = getD order k 0
+
+    abbrev next : List ℕ
+    next = headOf i c (getD totals i 0)
+
+    same : next ≡ planOf counts totals given .head i
+    same = ap (λ (n : ℕ). headOf i n (getD totals i 0)) d
+
+    fits : roomOf (planOf counts totals given) (take k order) + (length (planOf counts totals given .head i) + getD totals i 0) ≤ length xs
+    fits = omega (arith, room-more (planOf counts totals given) order k l)
+
+    pub heading-room : length next ≤ length (midOf n (length ys - n) ys)
+    heading-room = omega (arith, ap length same, headed-room (h .put) i fits .room)
+
+    module _ (a : allAmong orderIds order ≡ true) (o : Once order) {zs : List ℕ} {m : ℕ} (w : Writes next (midOf n (length ys - n) ys) zs (Length m)) where
+      pub heading-more : Heading order given counts totals xs (putMid n (length ys - n) ys zs) (set places i (n + m)) (n + m + getD totals i 0) (k + 1)
+      heading-more =
+          record { put = headed-as (sym (take-more order k l)) (headed-more (h .put) i fits (next-below order k a l) (once-at order k o l) (writes-as same w)) }
+
+      pub heading-fits : length xs < 2 ^ 64 → Fits w64 (n + m + getD totals i 0)
+      heading-fits b = record { fits = omega (arith, within (heading-more .put .done)) }
+
+  pub heading-all : length order ≤ k → Headed (planOf counts totals given) order xs ys places n
+  heading-all l = headed-as (take-all k order l) (h .put)

@@ -1,7 +1,7 @@
 -- How far the look for an id that an order list has twice has come. Assumes nothing.
 use mathlib.Core.Path.{_≡_, refl, sym, subst, _∙_, ap}
 use mathlib.Core.Logic.{_↔_}
-use mathlib.Core.Bool.{true, false, true≢false}
+use mathlib.Core.Bool.{Bool, true, false, true≢false}
 use mathlib.Core.List.{List, [], _∷_, _++_}
 use Prim.Native.Nat.{ℕ, zero, suc, _+_, _≤_, _<_}
 use native.Mathlib.Numerals.{add-one}
@@ -83,3 +83,7 @@ module _ {order seen : List ℕ} {j : ℕ} (s : Seen order seen j) where
 
   pub seen-all : length order ≤ j → (true ≡ true) ↔ Once order
   seen-all h = (λ e. subst Once (take-all j order h) (s .once), λ o. refl)
+
+-- what the look told
+pub once-told : (order : List ℕ) {r : Bool} → (r ≡ true) ↔ Once order → r ≡ true → Once order
+once-told order f e = f .0 e
