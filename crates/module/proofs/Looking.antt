@@ -16,8 +16,8 @@ order-section i h = rw (ne-eqb i 12 h)
 pub record Looked (order : List ℕ) (i : ℕ) : Type 0 where
   pub rest : allAmong orderIds order ≡ allAmong orderIds (drop i order)
 
-pub looked-none : (order : List ℕ) → Looked order 0
-looked-none order = record { rest = refl }
+pub looked-none : {order : List ℕ} → Looked order 0
+looked-none = record { rest = refl }
 
 module _ {order : List ℕ} {i : ℕ} (l : Looked order i) where
   pub looked-more : i < length order → {t : Bool} → t ≡ among orderIds (getD order i 0) → t ≡ true → Looked order (i + 1)
