@@ -24,10 +24,6 @@ use Rattle.frames.proofs.Placing.{Begins}
 use Rattle.frames.proofs.Walking.{Walked, walk-none, walk-more, walk-rest, walk-stop, walk-done, items-append, items-one, items-other}
 use Rattle.sections.proofs.Finding.{frame-begins}
 
--- nothing was written
-pub wrote-none : (xs : List ℕ) → Writes [] xs xs (Length 0)
-wrote-none xs = writes (omega arith) refl refl
-
 -- the items of section id among the frames before place `at` of s are written, n bytes; those of all frames have `total`
 pub record Copied (s : List ℕ) (id total : ℕ) (xs ys : List ℕ) (n at : ℕ) : Type 0 where
   pub all : List Frame
@@ -47,9 +43,9 @@ some-of none e = absurd (true≢false e)
 some-of (some all) e = (all, refl)
 
 pub copied-none : {s : List ℕ} {id total : ℕ} {xs : List ℕ} → noFrames (run frame s) ≡ false → total ≡ length (itemBytes id s) → total ≤ length xs → Copied s id total xs xs 0 0
-copied-none {s} {xs = xs} e l h =
+copied-none {s} e l h =
     let (all, q) = some-of (run frame s) e in
-    record { all = all; is = q; size = rw q at l; room = h; past = []; walk = walk-none s; done = wrote-none xs }
+    record { all = all; is = q; size = rw q at l; room = h; past = []; walk = walk-none s; done = writes (omega arith) refl refl }
 
 -- a section's items among the frames that were passed, and the others
 module _ {s : List ℕ} {all : List Frame} (is : run frame s ≡ some all) (id : ℕ) {fs : List Frame} {at : ℕ} (w : Walked s fs at) where

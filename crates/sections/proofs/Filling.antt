@@ -56,7 +56,7 @@ module _ (s : List ℕ) (given : Given) where
       let n : length (f i) ≡ length (planIn s given .head i) + length (itemBytes i s) = ap length (sym (a .0 .1)) ∙ length-append (planIn s given .head i) (itemBytes i s) in
       omega (arith, a .0 .0, planned-long order (a .1), length-append (f i) (prints f order))
 
-  pub plan-long : (order : List ℕ) → allAmong orderIds order ≡ true → roomOf (planIn s given) order ≡ length (prints (sectionOf given (framesOf s)) order)
+  plan-long : (order : List ℕ) → allAmong orderIds order ≡ true → roomOf (planIn s given) order ≡ length (prints (sectionOf given (framesOf s)) order)
   plan-long order e = planned-long order (listed-all Planned planned order e)
 
 -- ---- the walk
@@ -81,16 +81,13 @@ writes-same {b} {xs} {ys} {n} w =
     let d : drop (length b) ys ≡ drop (length b) xs = ap (drop (length b)) e ∙ drop-at b (drop (length b) xs) (length b) refl in
     writes (omega (arith, ap length e, length-append b (drop (length b) xs))) k (e ∙ ap (λ (l : List ℕ). b ++ l) (sym d))
 
-pub filling-none : {s order : List ℕ} {given : Given} {n : ℕ} {xs ys places : List ℕ} → noFrames (run frame s) ≡ false → Once order → Headed (planIn s given) order xs ys places n
+filling-none : {s order : List ℕ} {given : Given} {n : ℕ} {xs ys places : List ℕ} → noFrames (run frame s) ≡ false → Once order → Headed (planIn s given) order xs ys places n
     → Filling s order given n ys ys places 0
 filling-none {s} e o h =
     let (all, q) = some-of (run frame s) e in
     record { all = all; is = q; once = o; past = []; walk = walk-none s; bytes = h .bytes; laid = h .laid; done = writes-same (h .done); few = h .few; others = h .others }
 
 module _ {s order : List ℕ} {given : Given} {n : ℕ} {xs ys places : List ℕ} {at : ℕ} (f : Filling s order given n xs ys places at) where
-  pub filling-stop : at < length s → No ≡ frameAt s at → ⊥
-  filling-stop h e = Option·none-ne-some (f .all) (sym (walk-stop (f .walk) h e) ∙ f .is)
-
   -- a frame is found
   module _ (h : at < length s) {i end : ℕ} (b : Begins s at i end) where
     abbrev next : List Frame
@@ -123,7 +120,7 @@ module _ {s order : List ℕ} {given : Given} {n : ℕ} {xs ys places : List ℕ
         (joined-one i (f .past) (b .here) (b .is)) (getD-set-same places i (to + (end - (at + 5))) 0 (omega arith) ∙ ap (λ (k : ℕ). to + k) (sym long)) (f .once) (f .laid)
 
     -- of a section that the order list does not have
-    pub filling-other : getD places i 0 ≤ 0 → Filling s order given n xs ys places end
+    filling-other : getD places i 0 ≤ 0 → Filling s order given n xs ys places end
     filling-other z = ⊎-elim away (λ p. absurd (omega (arith, p .lead, p .place))) found
       where
         away : Away i order → Filling s order given n xs ys places end
@@ -161,10 +158,10 @@ module _ {s order : List ℕ} {given : Given} {n : ℕ} {xs ys places : List ℕ
             ap (λ (o : Option (List Frame)). length (joined (itemsOf i (held o)))) (f .is),
           )
 
-      pub filling-room : Room item ys (getD places i 0)
+      filling-room : Room item ys (getD places i 0)
       filling-room = within-room (f .done) (spot .front) (spot .gap) (spot .rest) (spot .is) (spot .place ∙ omega arith) item room
 
-      pub filling-item : {r : Written} {zs : List ℕ} → Writes (take (end - (at + 5)) (drop (at + 5) s)) (midOf (getD places i 0) (length ys - getD places i 0) ys) zs r
+      filling-item : {r : Written} {zs : List ℕ} → Writes (take (end - (at + 5)) (drop (at + 5) s)) (midOf (getD places i 0) (length ys - getD places i 0) ys) zs r
           → Filling s order given n xs (putMid (getD places i 0) (length ys - getD places i 0) ys zs) moved end
       filling-item w =
           let p = spot in
@@ -180,14 +177,6 @@ module _ {s order : List ℕ} {given : Given} {n : ℕ} {xs ys places : List ℕ
             few = length-set places i (getD places i 0 + (end - (at + 5))) ∙ f .few;
             others = λ j k a. getD-set-other places i j (getD places i 0 + (end - (at + 5))) 0 (λ e. listed (subst (λ (x : ℕ). Away x order) e a)) ∙ f .others j k a;
           }
-
-  -- all items are written
-  pub filling-done : length s ≤ at → allAmong orderIds order ≡ true → {zs places' : List ℕ} → Headed (planIn s given) order zs xs places' n
-      → Writes (prints (sectionOf given (framesOf s)) order) zs ys (Length n)
-  filling-done h e g =
-      let all : f .past ≡ framesOf s = sym (ap held (walk-done (f .walk) h)) in
-      let laid : Laid (planIn s given) (λ i. itemBytes i s) places 0 order (f .bytes) = subst (λ (fs : List Frame). Laid (planIn s given) (λ i. joined (itemsOf i fs)) places 0 order (f .bytes)) all (f .laid) in
-      writes-as (laid-all (sectionOf given (framesOf s)) laid (listed-all (Planned s given) (planned s given) order e)) (writes-again (g .done) (f .done))
 
 -- ---- the same, of whatever numbers the heads were written over whatever there was: the walk does not know them
 
@@ -224,7 +213,7 @@ module _ {s order : List ℕ} {n : ℕ} {xs start ys places : List ℕ} {at : �
     filled-long = same-long (filling .done) ∙ same-long (heads .done)
 
     pub filled-stops : at < length s → {r : FrameAt} → r ≡ No → r ≡ frameAt s at → ⊥
-    filled-stops l e d = filling-stop filling l (sym e ∙ d)
+    filled-stops l e d = Option·none-ne-some (filling .all) (sym (walk-stop (filling .walk) l (sym e ∙ d)) ∙ filling .is)
 
     module _ (l : at < length s) {i end : ℕ} {r : FrameAt} (e : r ≡ Is i end) (d : r ≡ frameAt s at) (p : 0 < getD places i 0) where
       pub filled-starts : getD places i 0 ≤ length ys
@@ -238,4 +227,8 @@ module _ {s order : List ℕ} {n : ℕ} {xs start ys places : List ℕ} {at : �
           record { fits = omega (arith, room .start, room .room, lent, filled-long, b .long) }
 
     pub filled-done : length s ≤ at → allAmong orderIds order ≡ true → Writes (prints (sectionOf given (framesOf s)) order) zs ys (Length n)
-    filled-done l a = filling-done filling l a heads
+    filled-done l a =
+        let p = planIn s given in
+        let all : filling .past ≡ framesOf s = sym (ap held (walk-done (filling .walk) l)) in
+        let laid = subst (λ (fs : List Frame). Laid p (λ i. joined (itemsOf i fs)) places 0 order (filling .bytes)) all (filling .laid) in
+        writes-as (laid-all (sectionOf given (framesOf s)) laid (listed-all (Planned s given) (planned s given) order a)) (writes-again (heads .done) (filling .done))

@@ -35,9 +35,6 @@ writes-more {a} {xs} {ys} {n} w k h =
     let z : t ≡ take k t ++ drop (length (a ++ take k t)) xs = sym (take-append-drop k t) ∙ ap (λ (l : List ℕ). take k t ++ l) (drop-drop k (length a) xs ∙ ap (λ (j : ℕ). drop j xs) (sym g)) in
     rw d (writes (omega arith) (omega arith) (m ∙ ap (λ (l : List ℕ). a ++ l) z ∙ sym (append-assoc a (take k t) (drop (length (a ++ take k t)) xs))))
 
-headed-none : (p : Plan) (xs places : List ℕ) → length places ≡ 16 → ((i : ℕ) → i < 16 → getD places i 0 ≡ 0) → Headed p [] xs xs places 0
-headed-none p xs places l z = record { bytes = []; laid = laid-none; done = writes (omega arith) refl refl; few = l; others = λ i h a. z i h }
-
 headed-as : {p : Plan} {order order' xs ys places : List ℕ} {n : ℕ} → order ≡ order' → Headed p order xs ys places n → Headed p order' xs ys places n
 headed-as {p} {xs = xs} {ys = ys} {places = places} {n = n} e h = subst (λ (o : List ℕ). Headed p o xs ys places n) e h
 
@@ -79,7 +76,7 @@ pub record Heading (order : List ℕ) (given : Given) (counts totals xs ys place
   pub put : Headed (planOf counts totals given) (take k order) xs ys places n
 
 pub heading-none : {order : List ℕ} {given : Given} {counts totals xs : List ℕ} → Heading order given counts totals xs xs zeros 0 0
-heading-none = record { put = headed-none _ _ zeros refl zeros-at }
+heading-none = record { put = record { bytes = []; laid = laid-none; done = writes (omega arith) refl refl; few = refl; others = λ i h a. zeros-at i h } }
 
 module _ {order : List ℕ} {given : Given} {counts totals xs ys places : List ℕ} {n k : ℕ} (h : Heading order given counts totals xs ys places n k) where
   -- c is the count that the next section says

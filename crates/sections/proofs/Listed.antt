@@ -32,13 +32,13 @@ both : (t u : Bool) → cond t u false ≡ true → (t ≡ true) × (u ≡ true)
 both true u e = (refl, e)
 both false u e = absurd (true≢false (sym e))
 
-pub listed : (order : List ℕ) (j : ℕ) → allAmong orderIds order ≡ true → j < length order → among orderIds (getD order j 0) ≡ true
+listed : (order : List ℕ) (j : ℕ) → allAmong orderIds order ≡ true → j < length order → among orderIds (getD order j 0) ≡ true
 listed [] j e h = absurd (omega arith)
 listed (i ∷ order) zero e h = both (among orderIds i) (allAmong orderIds order) e .0
 listed (i ∷ order) (suc j) e h = listed order j (both (among orderIds i) (allAmong orderIds order) e .1) (omega arith)
 
 -- it is below 16
-pub listed-below : (i : ℕ) → among orderIds i ≡ true → i < 16
+listed-below : (i : ℕ) → among orderIds i ≡ true → i < 16
 listed-below i e = among-each (λ k. k < 16) orderIds i (omega arith, (omega arith, (omega arith, (omega arith, (omega arith, (omega arith, tt)))))) e
 
 -- the next one, as the code takes it
@@ -63,7 +63,7 @@ listed-all P f (i ∷ order) e = let (a, b) = both (among orderIds i) (allAmong 
 abbrev said : Given → List ℕ → ℕ → ℕ
 said given s i = saidOf given i (length (itemsOf i (framesOf s)))
 
-pub section-said : (given : Given) (s : List ℕ) (i : ℕ) → sectionOf given (framesOf s) i ≡ section i (uleb (said given s i) ++ itemBytes i s)
+section-said : (given : Given) (s : List ℕ) (i : ℕ) → sectionOf given (framesOf s) i ≡ section i (uleb (said given s i) ++ itemBytes i s)
 section-said given s i = go (eqb i dataCount) refl
   where
     go : (t : Bool) → eqb i dataCount ≡ t → sectionOf given (framesOf s) i ≡ section i (uleb (said given s i) ++ itemBytes i s)
@@ -74,7 +74,7 @@ section-said given s i = go (eqb i dataCount) refl
 
 -- and how a tally tells it
 module _ (s : List ℕ) (i : ℕ) (h : i < 16) where
-  pub total-is : {totals : List ℕ} → totals ≡ tallyOf (run frame s) .totals → getD totals i 0 ≡ length (itemBytes i s)
+  total-is : {totals : List ℕ} → totals ≡ tallyOf (run frame s) .totals → getD totals i 0 ≡ length (itemBytes i s)
   total-is e = ap (λ (l : List ℕ). getD l i 0) e ∙ total-at s i h
 
   pub section-is : {counts : List ℕ} → counts ≡ tallyOf (run frame s) .counts → (given : Given) {c : ℕ} → c ≡ saidOf given i (getD counts i 0)
