@@ -8,11 +8,11 @@ use mathlib.Core.Logic.{⊎-elim}
 use native.Mathlib.Omega.{arith}
 use mir.Syntax.{w64}
 use mir.Val.{Fits}
-use lib.ListN.{length, take, drop, length-append, length-drop}
+use lib.ListN.{length, take, drop, length-append}
 use borrow.Rule.Slice.PartMut.{putMid, midOf}
 use Rattle.format.specs.Lists.{prints-append, prints-more}
 use Rattle.format.specs.Runs.{run}
-use Rattle.format.specs.Write.{Writes, Room, writes, writes-as, writes-then, room-then, fitted, told-length, fits-or, rest-lent, same-long}
+use Rattle.format.specs.Write.{Writes, Room, writes, writes-as, writes-then, room-then, fitted, told-length, fits-or, same-long}
 use Rattle.format.specs.declared.Written.{Written}
 use Rattle.format.specs.declared.Written.the-variants.{Length}
 use Rattle.frames.specs.Frames.{Frame, frame, noFrames, held}
@@ -23,6 +23,7 @@ use Rattle.frames.specs.declared.FrameAt.the-variants.{Is, No}
 use Rattle.frames.proofs.Placing.{Begins}
 use Rattle.frames.proofs.Walking.{Walked, walk-none, walk-more, walk-rest, walk-stop, walk-done, items-append, items-one, items-other}
 use Rattle.sections.proofs.Finding.{frame-begins}
+use Rattle.sections.proofs.Behind.{room-long}
 
 -- the items of section id among the frames before place `at` of s are written, n bytes; those of all frames have `total`
 pub record Copied (s : List ℕ) (id total : ℕ) (xs ys : List ℕ) (n at : ℕ) : Type 0 where
@@ -94,9 +95,7 @@ module _ {s : List ℕ} {id total : ℕ} {xs ys : List ℕ} {n at : ℕ} (c : Co
       left = room-then (b .here .item) (c .done) (omega (arith, items-bounded (c .is) id walk, ap length one, c .size, c .room))
 
       pub copied-fits : length xs < 2 ^ 64 → Fits w64 (n + (end - (at + 5)))
-      copied-fits m =
-          let lent : length (midOf n (length ys - n) ys) ≡ length ys - n = ap length (rest-lent n ys) ∙ length-drop n ys in
-          record { fits = omega (arith, left .start, left .room, lent, same-long (c .done), b .long) }
+      copied-fits m = record { fits = omega (arith, room-long left, same-long (c .done), b .long) }
 
       pub copied-item : {w : Written} {zs : List ℕ} → Writes (take (end - (at + 5)) (drop (at + 5) s)) (midOf n (length ys - n) ys) zs w
           → Copied s id total xs (putMid n (length ys - n) ys zs) (n + (end - (at + 5))) end

@@ -13,7 +13,7 @@ use lib.Seq.{drop-at, getD-set-same, getD-set-other}
 use borrow.Rule.Slice.PartMut.{putMid, midOf}
 use Rattle.format.specs.Lists.{All, prints}
 use Rattle.format.specs.Runs.{run}
-use Rattle.format.specs.Write.{Writes, Room, writes, writes-as, told-length, rest-lent, same-long}
+use Rattle.format.specs.Write.{Writes, Room, writes, writes-as, told-length, same-long}
 use Rattle.format.specs.declared.Written.{Written}
 use Rattle.format.specs.declared.Written.the-variants.{Length}
 use Rattle.frames.specs.Frames.{Frame, frame, framesOf, held, noFrames}
@@ -31,6 +31,7 @@ use Rattle.sections.specs.Laid.{Plan, planOf, roomOf, Laid, Headed}
 use Rattle.sections.proofs.Lengths.{section-parts}
 use Rattle.sections.proofs.Copying.{some-of, items-bounded, joined-one}
 use Rattle.sections.proofs.Finding.{frame-begins}
+use Rattle.sections.proofs.Behind.{room-long}
 use Rattle.sections.proofs.Listed.{listed-all, section-is}
 use Rattle.sections.proofs.Laying.{Spot, seek, laid-other, laid-all, within-room, within-put, writes-again}
 
@@ -220,11 +221,7 @@ module _ {s order : List ℕ} {n : ℕ} {xs start ys places : List ℕ} {at : �
       filled-starts = filling-room filling l (frame-begins e s at d) p .start
 
       pub filled-fits : length zs < 2 ^ 64 → Fits w64 (getD places i 0 + (end - (at + 5)))
-      filled-fits m =
-          let b = frame-begins e s at d in
-          let room = filling-room filling l b p in
-          let lent : length (midOf (getD places i 0) (length ys - getD places i 0) ys) ≡ length ys - getD places i 0 = ap length (rest-lent (getD places i 0) ys) ∙ length-drop (getD places i 0) ys in
-          record { fits = omega (arith, room .start, room .room, lent, filled-long, b .long) }
+      filled-fits m = let b = frame-begins e s at d in record { fits = omega (arith, room-long (filling-room filling l b p), filled-long, b .long) }
 
     pub filled-done : length s ≤ at → allAmong orderIds order ≡ true → Writes (prints (sectionOf given (framesOf s)) order) zs ys (Length n)
     filled-done l a =
