@@ -1,3 +1,4 @@
 -- What the proofs of `frames` share.
 pub mod Placing
+pub mod Finding
 pub mod Walking

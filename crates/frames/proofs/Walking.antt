@@ -3,7 +3,7 @@ use mathlib.Core.Path.{_≡_, refl, sym, ap, ap₂, _∙_}
 use mathlib.Core.Bool.{Bool, true, false, cond}
 use mathlib.Core.Option.{Option, none, some, Option·map, Option·none-ne-some}
 use mathlib.Core.List.{List, [], _∷_, _++_, append-nil, append-assoc}
-use Prim.Native.Nat.{ℕ, _+_, _-_, _*_, _≤_, _<_, _^_}
+use Prim.Native.Nat.{ℕ, _+_, _-_, _≤_, _<_, _^_}
 use native.Mathlib.Omega.{arith}
 use mir.Syntax.{w64}
 use mir.Val.{Fits}
@@ -14,12 +14,12 @@ use Rattle.format.specs.Runs.{run, run-more, run-stop, run-none}
 use Rattle.format.specs.Lists.{prints, prints-more}
 use Rattle.format.specs.Read.{drop-end}
 use Rattle.frames.specs.Frames.{Frame, frame, frame-some, frame-long}
-use Rattle.frames.specs.Ids.{among-each, sections}
 use Rattle.frames.specs.Place.{frameAt}
 use Rattle.frames.specs.declared.FrameAt.{FrameAt}
 use Rattle.frames.specs.declared.FrameAt.the-variants.{Is, No}
 use Rattle.frames.specs.Tally.{itemsOf, joined, items-few, table, countsOf, totalsOf, tallyOf, table-at, table-set}
-use Rattle.frames.proofs.Placing.{Begins, frame-found, none-found}
+use Rattle.frames.proofs.Placing.{Begins, none-found}
+use Rattle.frames.proofs.Finding.{frame-begins, id-below, begins-below}
 
 -- ---- the frames before a place
 
@@ -109,30 +109,6 @@ pub record Tallied (s counts totals : List ℕ) (at : ℕ) : Type 0 where
 pub tally-none : (s : List ℕ) → Tallied s (table 16 (λ i. 0)) (table 16 (λ i. 0)) 0
 tally-none s = record { past = []; walk = walk-none s; count = refl; total = refl }
 
--- a section's id is below 16
-pub begins-below : {s : List ℕ} {at i end : ℕ} → Begins s at i end → i < 16
-begins-below b = rw (← (b .is)) (among-each (λ i. i < 16) sections (b .here .id) (omega arith, (omega arith, (omega arith, (omega arith, (omega arith, tt))))) (b .ok .0 .1))
-
--- the frame that is found at a place
-module _ (s : List ℕ) (at : ℕ) {i end : ℕ} {r : FrameAt} (e : r ≡ frameAt s at) (q : r ≡ Is i end) where
-  pub there : Begins s at i end
-  there = frame-found s at i end (sym q ∙ e)
-
-  pub id-below : i < 16
-  id-below = begins-below there
-
-  pub id-scaled : Fits w64 (i * 8)
-  id-scaled = let h = id-below in record { fits = omega arith }
-
-  pub frame-from : at ≤ end
-  frame-from = omega (arith, there .long)
-
-  pub item-from : 5 ≤ end - at
-  item-from = omega (arith, there .long)
-
-  pub less-left : at < length s → length s - end < length s - at
-  less-left h = omega (arith, there .long, there .within)
-
 module _ {s counts totals : List ℕ} {at : ℕ} (t : Tallied s counts totals at) where
   -- what stands in the arrays is no more than the place
   pub tally-few : (i : ℕ) → i < 16 → getD counts i 0 + getD totals i 0 ≤ at
@@ -141,15 +117,15 @@ module _ {s counts totals : List ℕ} {at : ℕ} (t : Tallied s counts totals at
       let b : getD totals i 0 ≡ length (joined (itemsOf i (t .past))) = ap (λ (l : List ℕ). getD l i 0) (t .total) ∙ table-at 16 (λ j. length (joined (itemsOf j (t .past)))) i h in
       omega (arith, items-few i (t .past), t .walk .long)
 
-  module _ {i end : ℕ} {r : FrameAt} (e : r ≡ frameAt s at) (q : r ≡ Is i end) (fits : length s < 2 ^ 63) where
+  module _ {i end : ℕ} {r : FrameAt} (q : r ≡ Is i end) (e : r ≡ frameAt s at) (fits : length s < 2 ^ 63) where
     few : getD counts i 0 + getD totals i 0 ≤ at
-    few = tally-few i (id-below s at e q)
+    few = tally-few i (id-below q s at e)
 
     pub count-fits : Fits w64 (getD counts i 0 + 1)
-    count-fits = record { fits = omega (arith, few, there s at e q .long, there s at e q .within) }
+    count-fits = record { fits = omega (arith, few, frame-begins q s at e .long, frame-begins q s at e .within) }
 
     pub total-fits : Fits w64 (getD totals i 0 + (end - at - 5))
-    total-fits = record { fits = omega (arith, few, there s at e q .long, there s at e q .within) }
+    total-fits = record { fits = omega (arith, few, frame-begins q s at e .long, frame-begins q s at e .within) }
 
   grows : at < length s → {i end : ℕ} → Begins s at i end
       → Tallied s (set counts i (getD counts i 0 + 1)) (set totals i (getD totals i 0 + (end - at - 5))) end
@@ -163,9 +139,9 @@ module _ {s counts totals : List ℕ} {at : ℕ} (t : Tallied s counts totals at
         total = table-more (λ l. length (joined l)) (t .past) (b .here) i (end - at - 5) (b .is) (begins-below b) more (t .total);
       }
 
-  pub tally-more : at < length s → {i end : ℕ} {r : FrameAt} → r ≡ frameAt s at → r ≡ Is i end
+  pub tally-more : at < length s → {i end : ℕ} {r : FrameAt} → r ≡ Is i end → r ≡ frameAt s at
       → Tallied s (set counts i (getD counts i 0 + 1)) (set totals i (getD totals i 0 + (end - at - 5))) end
-  tally-more h e q = grows h (there s at e q)
+  tally-more h q e = grows h (frame-begins q s at e)
 
   pub tally-stop : at < length s → {r : FrameAt} → r ≡ frameAt s at → r ≡ No → tallyOf none ≡ tallyOf (run frame s)
   tally-stop h e q = sym (ap tallyOf (walk-stop (t .walk) h (sym q ∙ e)))

@@ -22,7 +22,7 @@ use Rattle.frames.specs.declared.FrameAt.{FrameAt}
 use Rattle.frames.specs.declared.FrameAt.the-variants.{Is, No}
 use Rattle.frames.proofs.Placing.{Begins}
 use Rattle.frames.proofs.Walking.{Walked, walk-none, walk-more, walk-rest, walk-stop, walk-done, items-append, items-one, items-other}
-use Rattle.sections.proofs.Finding.{frame-begins}
+use Rattle.frames.proofs.Finding.{frame-begins}
 use Rattle.sections.proofs.Behind.{room-long}
 
 -- the items of section id among the frames before place `at` of s are written, n bytes; those of all frames have `total`

@@ -23,14 +23,14 @@ use Rattle.frames.specs.declared.Tallies.{Tallies}
 use Rattle.frames.specs.declared.FrameAt.{FrameAt}
 use Rattle.frames.specs.declared.FrameAt.the-variants.{Is, No}
 use Rattle.frames.proofs.Placing.{Begins}
-use Rattle.frames.proofs.Walking.{Walked, walk-none, walk-more, walk-stop, walk-done, items-other, begins-below}
+use Rattle.frames.proofs.Walking.{Walked, walk-none, walk-more, walk-stop, walk-done, items-other}
 use Rattle.sections.specs.declared.Given.{Given}
 use Rattle.sections.specs.Section.{sectionOf}
 use Rattle.sections.specs.Order.{orderIds, allAmong, Away, Once}
 use Rattle.sections.specs.Laid.{Plan, planOf, roomOf, Laid, Headed}
 use Rattle.sections.proofs.Lengths.{section-parts}
 use Rattle.sections.proofs.Copying.{some-of, items-bounded, joined-one}
-use Rattle.sections.proofs.Finding.{frame-begins}
+use Rattle.frames.proofs.Finding.{frame-begins, begins-below}
 use Rattle.sections.proofs.Behind.{room-long}
 use Rattle.sections.proofs.Listed.{listed-all, section-is}
 use Rattle.sections.proofs.Laying.{Spot, seek, laid-other, laid-all, within-room, within-put, writes-again}

@@ -1,6 +1,5 @@
 -- What the proofs of `sections` share.
 pub mod Lengths
-pub mod Finding
 pub mod Behind
 pub mod OneSection
 pub mod Copying

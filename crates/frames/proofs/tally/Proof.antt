@@ -4,7 +4,8 @@ use Prim.Native.Nat.{_-_, _<_, _^_}
 use lib.ListN.{length}
 use borrow.Author.Needs.{needs}
 use Rattle.frames.specs.Tally.{table, tallyOf}
-use Rattle.frames.proofs.Walking.{Tallied, tally-none, id-below, id-scaled, frame-from, item-from, less-left, count-fits, total-fits, tally-more, tally-stop, tally-done}
+use Rattle.frames.proofs.Finding.{id-below, id-scaled, frame-from, item-from, frame-less}
+use Rattle.frames.proofs.Walking.{Tallied, tally-none, count-fits, total-fits, tally-more, tally-stop, tally-done}
 use Rattle.frames.proofs.tally.Statement.{statement}
 use Rattle.frames.proofs.tally.Tie as tie
 
@@ -47,6 +48,6 @@ tally-spec =
     (λ c. search id-below)
     (λ c. search (total-fits, slice-fits))
     (λ c. search id-below)
-    (λ c. search less-left)
+    (λ c. search frame-less)
     (λ c. search tally-more)
     (λ c. search tally-done))

@@ -2,7 +2,7 @@
 use Prim.Native.Nat.{_-_}
 use lib.ListN.{length}
 use borrow.Author.Needs.{needs}
-use Rattle.sections.proofs.Finding.{id-below, id-fits, id-scaled, item-starts, item-within, item-fits, frame-less}
+use Rattle.frames.proofs.Finding.{id-below, id-fits, id-scaled, item-starts, item-within, item-fits, frame-less}
 use Rattle.sections.proofs.Listed.{total-few}
 use Rattle.sections.proofs.Filling.{heads-room, Filled, filled-none, filled-other, filled-item, filled-long, filled-stops, filled-starts, filled-fits, filled-done}
 use Rattle.sections.proofs.once.put_once.Statement.{statement}

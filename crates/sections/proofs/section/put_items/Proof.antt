@@ -3,7 +3,7 @@ use Prim.Native.Nat.{_-_}
 use lib.ListN.{length}
 use borrow.Author.Needs.{needs}
 use Rattle.format.specs.Write.{same-long}
-use Rattle.sections.proofs.Finding.{item-starts, item-within, item-fits, frame-less}
+use Rattle.frames.proofs.Finding.{item-starts, item-within, item-fits, frame-less}
 use Rattle.sections.proofs.Behind.{behind-starts}
 use Rattle.sections.proofs.Copying.{Copied, copied-none, copied-stops, copied-other, copied-fits, copied-item, copied-done}
 use Rattle.sections.proofs.section.put_items.Statement.{statement}

@@ -6,11 +6,15 @@ use native.Mathlib.Omega.{arith}
 use mir.Syntax.{w64}
 use mir.Val.{Fits}
 use lib.ListN.{length}
 use Rattle.frames.specs.Place.{frameAt}
 use Rattle.frames.specs.declared.FrameAt.{FrameAt}
 use Rattle.frames.specs.declared.FrameAt.the-variants.{Is}
 use Rattle.frames.proofs.Placing.{Begins, frame-found}
-use Rattle.frames.proofs.Walking.{begins-below}
+use Rattle.frames.specs.Ids.{among-each, sections}
+
+-- a section's id is below 16
+pub begins-below : {s : List ℕ} {at i end : ℕ} → Begins s at i end → i < 16
+begins-below b = rw (← (b .is)) (among-each (λ i. i < 16) sections (b .here .id) (omega arith, (omega arith, (omega arith, (omega arith, (omega arith, tt))))) (b .ok .0 .1))
 
 module _ {i end : ℕ} {r : FrameAt} (e : r ≡ Is i end) (s : List ℕ) (at : ℕ) (d : r ≡ frameAt s at) where
   pub frame-begins : Begins s at i end
@@ -29,6 +33,12 @@ module _ {i end : ℕ} {r : FrameAt} (e : r ≡ Is i end) (s : List ℕ) (at : �
   -- its item
   pub item-starts : at + 5 ≤ end
   item-starts = omega (arith, frame-begins .long)
+
+  pub frame-from : at ≤ end
+  frame-from = omega (arith, frame-begins .long)
+
+  pub item-from : 5 ≤ end - at
+  item-from = omega (arith, frame-begins .long)
 
   pub item-within : end ≤ length s
   item-within = frame-begins .within
