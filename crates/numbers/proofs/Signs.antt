@@ -1,6 +1,7 @@
 -- What the code makes of a signed number's bits, at 64 of them: its sign, its magnitude, and the number again. Assumes nothing.
 use mathlib.Core.Path.{_≡_, refl, ap, _∙_}
 use mathlib.Core.Bool.{Bool, true, false}
+use mathlib.Core.List.{List}
 use Prim.Native.Nat.{ℕ, suc, _-_, _<_, _^_, zero-le}
 use native.Mathlib.Omega.{arith}
 use lib.Dec.{T}
@@ -10,7 +11,9 @@ use borrow.Author.Tests.{ltb-true, le-ltb}
 use mir.Syntax.{w32, w64}
 use mir.Val.{Fits, SFits, toZ, ofZ}
 use mir.Facts.{toZ-pos, toZ-neg, toZ-ofZ, sfits-widen}
-use Rattle.leb128.specs.Leb.{signed, within}
+use Rattle.format.specs.Write.{Writes}
+use Rattle.format.specs.declared.Written.{Written}
+use Rattle.leb128.specs.Leb.{signed, within, sleb}
 use Rattle.leb128.specs.Parts.{bySign, mag-sign}
 
 -- a number is its sign and its magnitude
@@ -69,3 +72,21 @@ module _ (z : ℤ) (w : within signed 32 z ≡ true) where
 
   pub back32 : toZ w32 (ofZ w32 (toZ w64 (ofZ w64 z))) ≡ z
   back32 = ap (λ (y : ℤ). toZ w32 (ofZ w32 y)) (toZ-ofZ (sfits-widen tt narrow)) ∙ toZ-ofZ narrow
+
+-- ---- a number that is handed on
+
+pub wider-fits : (v : ℤ) → SFits w32 v → SFits w64 (toZ w32 (ofZ w32 v))
+wider-fits v f = rw (toZ-ofZ f) (sfits-widen tt f)
+
+pub writes-wider : (v : ℤ) {xs ys : List ℕ} {r : Written} → SFits w32 v → Writes (sleb (toZ w64 (ofZ w64 (toZ w32 (ofZ w32 v))))) xs ys r → Writes (sleb v) xs ys r
+writes-wider v f w = rw (widened v f) at w
+
+pub writes-parts : (v : ℤ) {n : Bool} {a : ℕ} {xs ys : List ℕ} {r : Written} → SFits w64 v → n ≡ ltZ (toZ w64 (ofZ w64 v)) (pos 0) → a ≡ mag (toZ w64 (ofZ w64 v))
+    → Writes (sleb (bySign n a)) xs ys r → Writes (sleb v) xs ys r
+writes-parts v {n} {a} f p q w = let e : bySign n a ≡ v = cc (sign-mag (toZ w64 (ofZ w64 v)), toZ-ofZ f) in rw e at w
+
+pub number-turned : (n : Bool) (a : ℕ) → a < 2 ^ 63 → n ≡ true → toZ w64 (2 ^ 64 - 1 - a) ≡ bySign n a
+number-turned n a h e = rw e (toZ-turned a h)
+
+pub number-same : (n : Bool) (a : ℕ) → a < 2 ^ 63 → n ≡ false → toZ w64 a ≡ bySign n a
+number-same n a h e = rw e (toZ-pos w64 h)
