@@ -4,6 +4,8 @@ use mathlib.Core.Bool.{true, false}
 use mathlib.Core.List.{List, _∷_}
 use Prim.Native.Nat.{ℕ, suc, _+_, _*_, _-_, _/_, _≤_, _<_}
 use native.Mathlib.Omega.{arith}
+use mir.Syntax.{w8}
+use mir.Val.{Fits}
 use lib.ListN.{length, getD, drop, set, length-set}
 use borrow.Author.Tests.{lt-ltb, le-leb, lt-leb}
 use Rattle.format.specs.Parsed.{Parsed, fail, got, got-value, fail-got, bind, map}
@@ -14,7 +16,7 @@ use Rattle.hex.specs.Words.{wordsIn, outcome, reading, Reads, words-take
 
 -- ---- the word at a place
 
-pub word-found : (s : List ℕ) (at : ℕ) → at + 4 ≤ length s → ((k : ℕ) → getD s k 0 < 256)
+word-found : (s : List ℕ) (at : ℕ) → at + 4 ≤ length s → ((k : ℕ) → getD s k 0 < 256)
     → word32 .parse (drop at s) ≡ got (valueOf (getD s at 0, (getD s (at + 1) 0, (getD s (at + 2) 0, getD s (at + 3) 0)))) (drop (at + 4) s)
 word-found s at h bytes =
     let e : at + 1 + 1 ≡ at + 2 = omega arith in
@@ -30,19 +32,23 @@ word-found s at h bytes =
       lt-ltb (getD s (at + 3) 0) 256 (bytes (at + 3)),
     )
 
+pub word-there : (s : List ℕ) (at : ℕ) → at + 4 ≤ length s → ((k : ℕ) → Fits w8 (getD s k 0)) → {w : ℕ} → w ≡ valueOf (getD s at 0, (getD s (at + 1) 0, (getD s (at + 2) 0, getD s (at + 3) 0)))
+    → word32 .parse (drop at s) ≡ got w (drop (at + 4) s)
+word-there s at h each e = word-found s at h (λ k. let f = each k in omega arith) ∙ ap (λ (w : ℕ). got w (drop (at + 4) s)) (sym e)
+
 -- ---- what reading words answers
 
-pub reads-few : (n : ℕ) (s xs : List ℕ) → length s / 4 < n → Reads n s xs xs false
+pub reads-few : {n : ℕ} {s xs : List ℕ} → length s / 4 < n → Reads n s xs xs false
 unfolding reading
-reads-few n s xs h = record { right = go (wordsIn n s) refl }
+reads-few {n} {s} {xs} h = record { right = go (wordsIn n s) refl }
   where
     go : (m : Parsed (List ℕ)) → wordsIn n s ≡ m → outcome false xs ≡ reading m xs
     go fail e = refl
     go (got ws r) e = absurd (omega (arith, words-taken n s ws r e .0, words-taken n s ws r e .1))
 
-pub reads-short : (n : ℕ) (s xs : List ℕ) → length xs < n → Reads n s xs xs false
+pub reads-short : {n : ℕ} {s xs : List ℕ} → length xs < n → Reads n s xs xs false
 unfolding reading
-reads-short n s xs h = record { right = go (wordsIn n s) refl }
+reads-short {n} {s} {xs} h = record { right = go (wordsIn n s) refl }
   where
     go : (m : Parsed (List ℕ)) → wordsIn n s ≡ m → outcome false xs ≡ reading m xs
     go fail e = refl
@@ -54,16 +60,16 @@ pub record Reading (n : ℕ) (s xs ys : List ℕ) (i : ℕ) : Type 0 where
   pub rest : map (λ ws. todo i ws ys) (wordsIn (n - i) (drop (4 * i) s)) ≡ map (λ ws. over ws xs) (wordsIn n s)
   pub long : length ys ≡ length xs
 
-pub reading-none : (n : ℕ) (s xs : List ℕ) → Reading n s xs xs 0
-reading-none n s xs = let z : n - 0 ≡ n = omega arith in record { rest = rw z (go (wordsIn n s)); long = refl }
+pub reading-none : {n : ℕ} {s xs : List ℕ} → Reading n s xs xs 0
+reading-none {n} {s} {xs} = let z : n - 0 ≡ n = omega arith in record { rest = rw z (go (wordsIn n s)); long = refl }
   where
     go : (m : Parsed (List ℕ)) → map (λ ws. todo 0 ws xs) m ≡ map (λ ws. over ws xs) m
     go fail = refl
     go (got ws r) = ap (λ (l : List ℕ). got l r) (todo-start ws xs)
 
 module _ {n : ℕ} {s xs ys : List ℕ} {i : ℕ} (d : Reading n s xs ys i) where
-  pub reading-more : i < n → i < length ys → {w : ℕ} → word32 .parse (drop (4 * i) s) ≡ got w (drop (4 * i + 4) s) → Reading n s xs (set ys i w) (i + 1)
-  reading-more h k {w} e =
+  pub reading-more : i < n → n ≤ length xs → {w : ℕ} → word32 .parse (drop (4 * i) s) ≡ got w (drop (4 * i + 4) s) → Reading n s xs (set ys i w) (i + 1)
+  reading-more h room {w} e =
       let m : n - i ≡ suc (n - (i + 1)) = omega arith in
       let j : 4 * (i + 1) ≡ 4 * i + 4 = omega arith in
       let t = wordsIn (n - (i + 1)) (drop (4 * i + 4) s) in
@@ -75,7 +81,7 @@ module _ {n : ℕ} {s xs ys : List ℕ} {i : ℕ} (d : Reading n s xs ys i) wher
     where
       go : (m : Parsed (List ℕ)) → map (λ ws. todo (i + 1) ws (set ys i w)) m ≡ map (λ ws. todo i ws ys) (bind m (λ ws r. got (w ∷ ws) r))
       go fail = refl
-      go (got ws r) = ap (λ (l : List ℕ). got l r) (todo-byte i w ws ys k)
+      go (got ws r) = ap (λ (l : List ℕ). got l r) (todo-byte i w ws ys (omega (arith, d .long)))
 
   pub reading-done : n ≤ i → n ≤ length xs → Reads n s xs ys true
   unfolding reading
