@@ -1,3 +1,4 @@
 -- What the proofs of `replies` share.
 pub mod Hearing
 pub mod Showing
+pub mod Taking
