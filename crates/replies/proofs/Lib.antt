@@ -1,4 +1,5 @@
 -- What the proofs of `replies` share.
 pub mod Hearing
+pub mod Replying
 pub mod Showing
 pub mod Taking
