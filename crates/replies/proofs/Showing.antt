@@ -1,20 +1,21 @@
 -- What the memory shows after a part of a line, and after a line. Assumes nothing.
-use mathlib.Core.Path.{_≡_, sym, ap, _∙_}
+use mathlib.Core.Path.{_≡_, refl, sym, ap, subst, _∙_}
 use mathlib.Core.Logic.{⊎-elim}
+use mathlib.Core.Bool.{Bool}
 use mathlib.Core.List.{List, [], _∷_, _++_, append-nil, append-assoc}
 use Prim.Native.Nat.{ℕ, _+_, _-_, _≤_, _<_, min}
 use native.Mathlib.Numerals.{add-one}
 use native.Mathlib.Omega.{arith}
 use lib.ListN.{length, take, drop, set, length-append, length-take, length-drop}
 use lib.Seq.{take-all, take-at, take-nil, take-append-add, take-suc-set, length-take-le}
-use borrow.Rule.Slice.PartMut.{putMid, midOf}
+use borrow.Rule.Slice.PartMut.{putMid, midOf, same-len-mid}
 use Rattle.format.specs.Write.{Writes, over, fits-or, todo, todo-end, todo-part}
 use Rattle.format.specs.declared.Written.{Written}
 use Rattle.hex.specs.Line.{lineOf}
 use Rattle.lines.specs.Done.{doing}
 use Rattle.lines.specs.Answer.{Outcome, answerLine, answered, answers-line}
-use Rattle.replies.specs.Input.{Kept, answerOf, ended, more, keptMost, front-tells, front-more}
-use Rattle.replies.specs.Run.{Shows, Gathered, Roomy, answerTo, Replied}
+use Rattle.replies.specs.Input.{Kept, answerOf, ended, more, keptMost, closed-none, closed-line, front-tells, front-more}
+use Rattle.replies.specs.Run.{longest, Ready, Shows, Gathered, Roomy, answerTo, Replied, Ends, Closes}
 use Rattle.replies.specs.declared.Run.{Run}
 
 -- ---- a part of a line
@@ -29,21 +30,27 @@ part-front line part n m h e =
     (fits-or (length part) (length line - n)) in
     ap (λ (l : List ℕ). take n line ++ l) f ∙ sym (ap (λ (j : ℕ). take j (take n line ++ part)) k ∙ take-append-add (take n line) part (length line - n))
 
-pub gathers : (line part : List ℕ) (n m : ℕ) {r : Written} {zs : List ℕ} → n ≤ length line → m ≡ min (length part) (length line - n)
-    → Writes (take (m - 0) (drop 0 part)) (midOf n (length line - n) line) zs r
-    → take (n + m) (putMid n (length line - n) line zs) ≡ take (length line) (take n line ++ part)
-gathers line part n m {r} {zs} h e w =
+pub part-gathered : (r : Run) (part line : List ℕ) {m : ℕ} {w : Written} (zs : List ℕ) → r .n ≤ length line → m ≡ min (length part) (length line - r .n)
+    → Writes (take (m - 0) (drop 0 part)) (midOf (r .n) (length line - r .n) line) zs w → length zs ≡ length (midOf (r .n) (length line - r .n) line)
+    → Gathered r part line (putMid (r .n) (length line - r .n) line zs) (record { state = r .state; n = r .n + m; at = r .at; ok = r .ok })
+part-gathered r part line {m} {w} zs h e x l =
+    let n = r .n in
     let z : m - 0 ≡ m = omega arith in
-    let v : Writes (take m part) (midOf n (length line - n) line) zs r = rw z at w in
-    let l : length (take m part) ≡ m = length-take-le m part (omega arith) in
+    let v : Writes (take m part) (midOf n (length line - n) line) zs w = rw z at x in
+    let j : length (take m part) ≡ m = length-take-le m part (omega arith) in
     let whole : putMid n (length line - n) line zs ≡ (take n line ++ take m part) ++ drop (n + length (take m part)) line =
     sym (todo-end (n + length (take m part)) (putMid n (length line - n) line zs))
     ∙ todo-part n (take m part) [] line v (omega arith)
     ∙ ap (λ (p : List ℕ). todo n p line) (append-nil (take m part))
     ∙ sym (append-assoc (take n line) (take m part) (drop (n + length (take m part)) line)) in
-    ap (take (n + m)) whole
-    ∙ take-at (take n line ++ take m part) (drop (n + length (take m part)) line) (n + m) (omega (arith, length-append (take n line) (take m part), length-take-le n line h))
-    ∙ part-front line part n m h e
+    record {
+      state = refl;
+      waiting = refl;
+      gathered = omega (arith, same-len-mid n (length line - n) line zs l);
+      front = ap (take (n + m)) whole
+          ∙ take-at (take n line ++ take m part) (drop (n + length (take m part)) line) (n + m) (omega (arith, length-append (take n line) (take m part), length-take-le n line h))
+          ∙ part-front line part n m h e;
+    }
 
 pub shows-part : (k : Kept) (r s : Run) (part line line' store buffer out : List ℕ) → length line ≡ keptMost → Shows k r line store buffer out → Gathered r part line line' s
     → Shows (more k part) s line' store buffer out
@@ -86,7 +93,7 @@ module _ (k : Kept) (r m s : Run) (line store buffer out store' buffer' out' : L
       sym (answers-line (m .state) store buffer (drop (m .at) out) (take (r .n - 0) (drop 0 line)) (omega (arith, g .room, length-drop (m .at) out)))
       ∙ ap (answered (drop (m .at) out)) did
 
-  pub shows-end : Shows (ended k) s line store' buffer' out'
+  shows-end : Shows (ended k) s line store' buffer' out'
   shows-end =
       let a = answerLine (answerOf k) in
       let n : answerTo m (take (r .n - 0) (drop 0 line)) store buffer out .value ≡ length a = ap (λ (o : Outcome). o .value) said in
@@ -106,8 +113,44 @@ module _ (k : Kept) (r m s : Run) (line store buffer out store' buffer' out' : L
             (append-assoc (h .handed) (g .handed) (take (m .at) out) ∙ ap (λ (l : List ℕ). h .handed ++ l) (g .waits) ∙ h .waits);
       }
 
+-- nothing of it is gathered any more, and its answer waits
+pub line-ends : {r m s : Run} {line store buffer out store' buffer' out' : List ℕ} → Ready r line buffer out → Roomy r out m
+    → Replied m (answerTo m (take (r .n - 0) (drop 0 line)) store buffer out) out s store' buffer' out' → length buffer' ≡ length buffer → length out' ≡ length out
+    → Ends r line store buffer out s store' buffer' out'
+line-ends {r} {m} {s} {line} {store} {buffer} {out} {store'} {buffer'} {out'} p g w b o =
+    record {
+      ready = record {
+        gathered = omega (arith, ap (λ (r : Run). r .n) (w .run));
+        waiting = omega (arith, ap (λ (r : Run). r .at) (w .run), w .fits);
+        lined = p .lined;
+        buffered = omega (arith, p .buffered);
+        room = omega (arith, p .room);
+      };
+      shows = λ k h. shows-end k r m s line store buffer out store' buffer' out' h g (p .buffered) w;
+    }
+
+-- ---- room for an answer: nothing is handed on, or all that waits
+
+pub room-there : {r : Run} {out : List ℕ} → r .at ≤ length out → longest ≤ length out - r .at → Roomy r out r
+room-there h l = record { state = refl; room = omega arith; handed = []; waits = refl }
+
+pub room-made : {r : Run} {out : List ℕ} {ok : Bool} → longest ≤ length out → Roomy r out (record { state = r .state; n = r .n; at = 0; ok = ok })
+room-made {r} {out} l = record { state = refl; room = omega arith; handed = take (r .at) out; waits = append-nil (take (r .at) out) }
+
 -- ---- the end of the input
 
--- the line is empty exactly where nothing is gathered
-pub as-long : (k : Kept) (r : Run) (line store buffer out : List ℕ) → r .n ≤ length line → Shows k r line store buffer out → r .n ≡ min keptMost (length (k .line))
-as-long k r line store buffer out l h = omega (arith, ap length (h .front), length-take-le (r .n) line l, length-take keptMost (k .line))
+module _ {r : Run} {line store buffer out : List ℕ} (p : Ready r line buffer out) where
+  -- the line is empty exactly where nothing is gathered
+  as-long : (k : Kept) → Shows k r line store buffer out → r .n ≡ min keptMost (length (k .line))
+  as-long k h = omega (arith, ap length (h .front), length-take-le (r .n) line (p .gathered), length-take keptMost (k .line))
+
+  pub nothing-closes : r .n ≡ 0 → Closes r line store buffer out r store buffer out
+  nothing-closes e =
+      record { ready = p; shows = λ k w. subst (λ (m : Kept). Shows m r line store buffer out) (sym (closed-none k (omega (arith, as-long k w)))) w }
+
+  pub line-closes : {s : Run} {store' buffer' out' : List ℕ} → (r .n ≡ 0 → ⊥) → Ends r line store buffer out s store' buffer' out' → Closes r line store buffer out s store' buffer' out'
+  line-closes {s} {store'} {buffer'} {out'} n e =
+      record {
+        ready = e .ready;
+        shows = λ k w. subst (λ (m : Kept). Shows m s line store' buffer' out') (sym (closed-line k (λ z. n (omega (arith, z, as-long k w))))) (e .shows k w);
+      }
