@@ -1,0 +1,2 @@
+-- What the proofs of `hexlines` share.
+pub mod Answering
