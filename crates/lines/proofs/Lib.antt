@@ -1,2 +1,4 @@
 -- What the proofs of `lines` share.
+pub mod Answering
 pub mod Framing
+pub mod Telling

@@ -51,7 +51,11 @@ doing state store buffer none = record { number = 12; value = 0; state = state; 
 doing state store buffer (some (adds words text)) = added buffer (adding state store words text)
 doing state store buffer (some (finishes e)) = finished state store (finishing state store e buffer)
 
--- the contract of what touches no module's buffer
+-- the contract of what is told of a frame
+pub record Does (f : Option Frame) (state : State) (store buffer store' buffer' : List ℕ) (r : Told) : Type 0 where
+  pub did : done r store' buffer' ≡ doing state store buffer f
+
+-- and of what touches no module's buffer
 pub record Tells (f : Option Frame) (state : State) (xs ys : List ℕ) (r : Told) : Type 0 where
   pub right : (buffer : List ℕ) → done r ys buffer ≡ doing state xs buffer f
 

@@ -12,7 +12,7 @@ ghost use Prim.Native.Nat.{_≤_};
 ghost use lib.ListN.{length};
 ghost use Rattle.frames.specs.Frames.{word32};
 ghost use Rattle.hex.specs.Frame.{adds, finishTold, wordList, whole, frameOf};
-ghost use Rattle.lines.specs.Done.{done, doing, Tells};
+ghost use Rattle.lines.specs.Done.{Does, Tells};
 
 // The number of the table, how many bytes the module has or 0, and the state.
 pub struct Told {
@@ -58,7 +58,7 @@ fn add_frame(bytes: &[u8], state: State, store: &mut [u8]) -> Told
 }
 
 fn finish_frame(bytes: &[u8], state: State, store: &[u8], buffer: &mut [u8]) -> Told
-    ensures { λ r. ⌜ done r (now (store .entry)) (now (buffer .exit)) ≡ doing state (now (store .entry)) (now (buffer .entry)) (whole finishTold (word32 .parse (now (bytes .entry)))) ⌝ }
+    ensures { λ r. ⌜ Does (whole finishTold (word32 .parse (now (bytes .entry)))) state (now (store .entry)) (now (buffer .entry)) (now (store .entry)) (now (buffer .exit)) r ⌝ }
 {
     if bytes.len() < 4 {
         return plain(12, state);
@@ -77,7 +77,7 @@ fn finish_frame(bytes: &[u8], state: State, store: &[u8], buffer: &mut [u8]) -> 
 
 pub fn tell(frame: &[u8], state: State, store: &mut [u8], buffer: &mut [u8]) -> Told
     requires { ⌜ length (now frame) ≤ 4096 ⌝ }
-    ensures { λ r. ⌜ done r (now (store .exit)) (now (buffer .exit)) ≡ doing state (now (store .entry)) (now (buffer .entry)) (frameOf (now (frame .entry))) ⌝ }
+    ensures { λ r. ⌜ Does (frameOf (now (frame .entry))) state (now (store .entry)) (now (buffer .entry)) (now (store .exit)) (now (buffer .exit)) r ⌝ }
 {
     if frame.len() == 0 {
         return plain(12, state);
