@@ -8,7 +8,7 @@ use lib.ListN.{length}
 use Rattle.frames.specs.declared.State.{State}
 use Rattle.replies.specs.Input.{keptMost}
 use Rattle.replies.specs.Run.{longest, Ready}
-use Rattle.replies.specs.Keeping.{Keeps}
+use Rattle.replies.specs.Keeping.{Keeps, all-kept, still-kept}
 use Rattle.replies.specs.declared.Run.{Run}
 
 pub record Answering (piece₀ line₀ store₀ buffer₀ out₀ piece line store buffer out : List ℕ) (run : Run) : Type 0 where
@@ -19,11 +19,7 @@ pub record Answering (piece₀ line₀ store₀ buffer₀ out₀ piece line stor
 pub answering-starts : {piece line store buffer out : List ℕ} {state : State} {ok : Bool} → length line ≡ keptMost → length buffer ≤ 32768 → longest ≤ length out
     → Answering piece line store buffer out piece line store buffer out (record { state = state; n = 0; at = 0; ok = ok })
 answering-starts l b o =
-    record {
-      ready = record { gathered = omega arith; waiting = omega arith; lined = l; buffered = b; room = o };
-      keeps = record { line = refl; store = refl; buffer = refl; out = refl };
-      pieces = refl;
-    }
+    record { ready = record { gathered = omega arith; waiting = omega arith; lined = l; buffered = b; room = o }; keeps = all-kept; pieces = refl }
 
 module _ {piece₀ line₀ store₀ buffer₀ out₀ piece line store buffer out : List ℕ} {run : Run} (a : Answering piece₀ line₀ store₀ buffer₀ out₀ piece line store buffer out run) where
   pub piece-kept : (l : List ℕ) → length l ≡ length piece → length l ≡ length piece₀
@@ -31,5 +27,5 @@ module _ {piece₀ line₀ store₀ buffer₀ out₀ piece line store buffer out
 
   pub answering-goes-on : {piece' line' store' buffer' out' : List ℕ} {s : Run} → length piece' ≡ length piece → Ready s line' buffer' out' → length line' ≡ length line → length store' ≡ length store
       → length buffer' ≡ length buffer → length out' ≡ length out → Answering piece₀ line₀ store₀ buffer₀ out₀ piece' line' store' buffer' out' s
-  answering-goes-on p r l t b o =
-      record { ready = r; keeps = record { line = l ∙ a .keeps .line; store = t ∙ a .keeps .store; buffer = b ∙ a .keeps .buffer; out = o ∙ a .keeps .out }; pieces = p ∙ a .pieces }
+  answering-goes-on {piece'} {line'} {store'} {buffer'} {out'} p r l t b o =
+      record { ready = r; keeps = still-kept (a .keeps) line' store' buffer' out' l t b o; pieces = piece-kept piece' p }

@@ -1,5 +1,5 @@
 -- A piece of the input, as a loop takes it line by line. Assumes nothing.
-use mathlib.Core.Path.{_≡_, refl, sym, ap, subst, _∙_}
+use mathlib.Core.Path.{_≡_, sym, ap, subst, _∙_}
 use mathlib.Core.Bool.{true, true≢false, not}
 use mathlib.Core.List.{List}
 use Prim.Native.Nat.{ℕ, _+_, _-_, _≤_, _<_, _^_}
@@ -12,7 +12,7 @@ use borrow.Author.Tests.{not-true}
 use Rattle.bytes.specs.Bytes.{slice, indexOf}
 use Rattle.replies.specs.Input.{Kept, more, hears}
 use Rattle.replies.specs.Run.{Ready, Shows, Gathered, Ends, Takes}
-use Rattle.replies.specs.Keeping.{Keeps}
+use Rattle.replies.specs.Keeping.{Keeps, all-kept, still-kept}
 use Rattle.replies.specs.declared.Run.{Run}
 use Rattle.replies.proofs.Hearing.{part-heard, line-heard}
 use Rattle.replies.proofs.Showing.{shows-part}
@@ -27,7 +27,7 @@ pub record Taking (piece : List ℕ) (r : Run) (line store buffer out : List ℕ
 
 pub none-taken : {piece : List ℕ} {r : Run} {line store buffer out : List ℕ} → Ready r line buffer out → length piece < 2 ^ 64
     → Taking piece r line store buffer out r line store buffer out 0
-none-taken h l = record { ready = h; keeps = record { line = refl; store = refl; buffer = refl; out = refl }; within = omega arith; lent = l; shows = λ k w. w }
+none-taken h l = record { ready = h; keeps = all-kept; within = omega arith; lent = l; shows = λ k w. w }
 
 -- where writing failed nothing is said of what the memory shows
 pub not-written : {piece : List ℕ} {r : Run} {line store buffer out : List ℕ} {s : Run} {line' store' buffer' out' : List ℕ} → Ready s line' buffer' out' → not (s .ok) ≡ true
@@ -76,7 +76,7 @@ module _ {piece : List ℕ} {r : Run} {line store buffer out : List ℕ} {s : Ru
       line-taken {v} {store″} {buffer″} {out″} h d n m o =
           record {
             ready = d .ready;
-            keeps = record { line = l ∙ t .keeps .line; store = n ∙ t .keeps .store; buffer = m ∙ t .keeps .buffer; out = o ∙ t .keeps .out };
+            keeps = still-kept (t .keeps) line″ store″ buffer″ out″ l n m o;
             within = omega arith;
             lent = t .lent;
             shows = λ k w. subst (λ (m : Kept). Shows m v line″ store″ buffer″ out″) (sym (line-heard k piece i end e h)) (d .shows _ (shows k w));
