@@ -1,12 +1,14 @@
 -- A line's answer and its line feed, into what is free of the output: there is room for both. Assumes nothing.
 use mathlib.Core.Path.{_≡_, sym, ap, _∙_}
-use mathlib.Core.Bool.{true≢false}
+use mathlib.Core.Bool.{true, true≢false}
 use mathlib.Core.List.{List, _++_}
 use Prim.Native.Nat.{ℕ, _+_, _*_, _-_, _≤_, _<_, _^_}
 use native.Mathlib.Omega.{arith}
+use lib.Dec.{leb}
 use lib.ListN.{length, take, drop, set, length-drop}
 use mir.Syntax.{w64}
 use mir.Val.{Fits}
+use borrow.Author.Tests.{leb-true}
 use borrow.Rule.Slice.PartMut.{putMid, midOf, same-len-mid}
 use Rattle.format.specs.Write.{rest-lent, rest-back}
 use Rattle.format.specs.declared.Written.{Written}
@@ -37,8 +39,8 @@ module _ (at : ℕ) (state : State) (line store buffer out : List ℕ) (x : Writ
     pub end-fits : length out < 2 ^ 64 → Fits w64 (at + n)
     end-fits l = let k = within in record { fits = omega arith }
 
-    pub next-fits : length out < 2 ^ 64 → Fits w64 (at + n + 1)
-    next-fits l = let k = within in record { fits = omega arith }
+    pub next-fits : (j : ℕ) → leb j 1 ≡ true → length out < 2 ^ 64 → Fits w64 (at + n + j)
+    next-fits j u l = let k = within in record { fits = omega (arith, leb-true j 1 u) }
 
     pub feed-within : length free ≡ length (midOf at (length out - at) out) → at + n < length (putMid at (length out - at) out free)
     feed-within l = omega (arith, within, same-len-mid at (length out - at) out free l)
