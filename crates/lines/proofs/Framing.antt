@@ -4,12 +4,14 @@ use mathlib.Core.Bool.{Bool, true, false, not}
 use mathlib.Core.Option.{none, some}
 use mathlib.Core.List.{List, [], _∷_}
 use Prim.Native.Nat.{ℕ, _+_, _*_, _-_, _≤_, _<_}
+use native.Mathlib.Nat.{mul-le-mul-right}
 use native.Mathlib.Omega.{arith}
+use lib.Dec.{leb}
 use lib.ListN.{length, take, drop, getD, length-append, length-drop}
 use lib.Seq.{take-at, drop-at, drop-drop, drop-cons}
 use mir.Syntax.{w8, w64}
 use mir.Val.{Fits}
-use borrow.Author.Tests.{lt-ltb, eq-eqb, ne-eqb, not-true, not-false}
+use borrow.Author.Tests.{leb-true, lt-ltb, eq-eqb, ne-eqb, not-true, not-false}
 use borrow.Rule.Slice.PartMut.{midOf}
 use Rattle.format.specs.Parsed.{Parsed, fail, got, bind}
 use Rattle.format.specs.Format.{Format}
@@ -107,14 +109,16 @@ module _ (s : List ℕ) (h : 2 ≤ length s) (bytes : (i : ℕ) → Fits w8 (get
       pub words-within : countIn s ≤ length ys
       words-within = found .few
 
-      pub text-within : 2 + 4 * countIn s ≤ length s
-      text-within = found .room
+      -- whatever each of the words takes, up to four bytes
+      module _ (j : ℕ) (u : leb j 4 ≡ true) where
+        pub text-within : 2 + j * countIn s ≤ length s
+        text-within = omega (arith, found .room, mul-le-mul-right (countIn s) (leb-true j 4 u))
 
-      pub words-fit : length s ≤ 4096 → Fits w64 (4 * countIn s)
-      words-fit l = let k = text-within in record { fits = omega arith }
+        pub words-fit : length s ≤ 4096 → Fits w64 (j * countIn s)
+        words-fit l = let k = text-within in record { fits = omega arith }
 
-      pub text-fits : length s ≤ 4096 → Fits w64 (2 + 4 * countIn s)
-      text-fits l = let k = text-within in record { fits = omega arith }
+        pub text-fits : length s ≤ 4096 → Fits w64 (2 + j * countIn s)
+        text-fits l = let k = text-within in record { fits = omega arith }
 
       pub frame-found : some (adds (take (countIn s - 0) (drop 0 ys)) (midOf (2 + 4 * countIn s) (length s - (2 + 4 * countIn s)) s)) ≡ whole adds (wordList .parse s)
       frame-found =
