@@ -18,7 +18,7 @@ use Rattle.thriftbell.specs.declared.Taken.{Taken}
 use Rattle.lines.specs.Answer as line
 use Rattle.lines.specs.declared.Reply.{Reply}
 use Rattle.format.specs.Write as write
-use Rattle.capi.specs.Outcomes.{written, added, took, Answered, answered, numbered}
+use Rattle.capi.specs.Outcomes.{written, added, took, answered, numbered}
 
 -- reading a number
 pub told : {A : Type 0} {x y z : A} → x ≡ y → y ≡ z → x ≡ z

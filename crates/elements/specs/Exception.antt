@@ -3,12 +3,12 @@
 use mathlib.Core.Path.{_≡_, refl, sym, ap, _∙_}
 use mathlib.Core.Logic.{_↔_}
 use mathlib.Core.Bool.{Bool, true, false}
-use mathlib.Core.Option.{some}
 use mathlib.Core.List.{List}
 use native.Mathlib.Omega.{arith}
 use lib.Dec.{eqb}
 use borrow.Author.Tests.{eqb-true}
 use Rattle.format.specs.Basic.{bit-small}
+use Rattle.format.specs.Leads.{some-is}
 use Rattle.types.specs.Words.{heapKind, heapShared, heapIndex, heap-kind-small, refTo, refOf, ref-of-to}
 use Rattle.types.specs.declared.HeapType.{HeapType}
 use Rattle.types.specs.declared.HeapType.the-variants.{Abstract, Concrete, Exact}
@@ -82,9 +82,6 @@ exceptionFrom Declared p true y = (Declared, (p, (true, y)))
 
 abbrev pub exception : {S : Type 0} → Segment S → Segment S
 exception a = exceptionFrom (a .0) (a .1 .0) (a .1 .1 .0) (a .1 .1 .1)
-
-some-is : {A : Type 0} {a b : A} → some a ≡ some b → a ≡ b
-some-is e = cc
 
 -- an abstract heap type has no index
 index-none : (t : HeapType) → heapKind t ≡ 0 → heapIndex t ≡ 0

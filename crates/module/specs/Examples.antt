@@ -1,7 +1,6 @@
 -- The module part of the whole case of document 01 (Hex lines), and the empty order, by computation. Assumes nothing.
 use mathlib.Core.Path.{_≡_, refl}
 use mathlib.Core.List.{List, [], _∷_}
-use Prim.Native.Nat.{ℕ}
 use Rattle.leb128.specs.Leb.{leb, lebBy}
 use Rattle.frames.specs.Frames.{Frame}
 use Rattle.sections.specs.Section.{ending}
