@@ -6,6 +6,8 @@ use mathlib.Core.Bool.{Bool, true, false, cond, _&&_}
 use Prim.Native.Nat.{ℕ, _+_, _-_, _*_, _/_, _%_, _≤_, _<_, _^_}
 use native.Mathlib.Nat.{mul-assoc, add-mul, mul-comm, mod-lt, div-lt-iff-lt-mul, div-eq-of-lt}
 use native.Mathlib.Omega.{arith}
+use mir.Syntax.{w64}
+use mir.Val.{Fits}
 use borrow.Author.Tests.{lt-ltb, le-ltb, eq-eqb, ne-eqb, eqb-true, eqb-false, le-leb, lt-leb}
 use lib.Arith.{digits-lt, digits-div}
 use lib.Bits.{bitAnd, bitOr, bitXor, and-mask, or-shifted, or-shifted-r}
@@ -16,7 +18,8 @@ use lib.Pow.{pow-add, pow-pos, pow-mono, shl-exact, split}
 use Rattle.format.specs.Write.{fits-or}
 use Rattle.leb128.specs.Leb.{within, leb, lastOf, join}
 use Rattle.leb128.specs.LebLaws.{leb-some, limitOf, limit-is, signBits, bytes-at-most, bytes-above}
-use Rattle.leb128.specs.Parts.{bySign, onesOf, joinBy, partsAt, shortAt}
+use Rattle.leb128.specs.Parts.{bySign, onesOf, joinBy, partsAt, shortAt, Topped, WholeByte, CutByte}
+use Rattle.leb128.specs.declared.Parts.{Parts}
 use Rattle.leb128.specs.declared.Parts.the-variants.{Value, Nothing}
 use Rattle.leb128.proofs.Writing.{turnOf, turned, length-sign}
 
@@ -107,6 +110,9 @@ within-whole true N b h l =
     (λ (k : b < 64). rw (lt-ltb b 64 k) (lt-ltb b (2 ^ (N - 1)) (omega arith)))
     (fits-or 64 b)
 
+pub all-within : (s : Bool) (N b : ℕ) → b < 128 → 7 ≤ N → true ≡ within s N (lastOf s b)
+all-within s N b h l = sym (within-whole s N b h l)
+
 -- all that was read, turned over at once
 pub turn-whole : (neg : Bool) (k d v : ℕ) → d < 128 → v < 2 ^ k → turnOf neg (k + 7) (d * 2 ^ k + v) ≡ turnOf neg 7 d * 2 ^ k + turnOf neg k v
 turn-whole false k d v h f = refl
@@ -167,44 +173,64 @@ needs-top s a k h n = ⊎-elim none some (fits-or k 0)
 
 -- ---- a last byte as the code takes it: neg is its sign, and f the bits of it to turn over
 
-module _ (s : Bool) (k b : ℕ) {neg : Bool} {f : ℕ} (small : b < 128) (is : neg ≡ s && isLe 64 b) (seven : f ≡ onesOf neg 7) where
-  top-is : bitXor b f ≡ turnOf neg 7 b
-  top-is = rw seven (turned neg 7 b small)
+module _ (s : Bool) (b : ℕ) {neg : Bool} {f : ℕ} (is : neg ≡ s && isLe 64 b) (seven : f ≡ onesOf neg 7) where
+  top-is : b < 128 → bitXor b f ≡ turnOf neg 7 b
+  top-is small = rw seven (turned neg 7 b small)
 
-  last-is : bySign neg (bitXor b f) ≡ lastOf s b
-  last-is = rw (top-is, is) (sign-last s b small)
+  last-is : b < 128 → bySign neg (bitXor b f) ≡ lastOf s b
+  last-is small = rw (top-is small, is) (sign-last s b small)
 
-  pub within-top : (N : ℕ) → within s N (lastOf s b) ≡ ltb (bitXor b f) (2 ^ (N - signBits s))
-  within-top N = sym (ap (within s N) last-is) ∙ rw is (within-sign s (isLe 64 b) N (bitXor b f))
+  within-top : b < 128 → (N : ℕ) → within s N (lastOf s b) ≡ ltb (bitXor b f) (2 ^ (N - signBits s))
+  within-top small N = sym (ap (within s N) (last-is small)) ∙ rw is (within-sign s (isLe 64 b) N (bitXor b f))
 
   -- v in front of which the byte stands, turned over
-  join-top : (v : ℕ) → bySign neg (bitXor b f * 2 ^ k + turnOf neg k v) ≡ joinBy k (lastOf s b) v
-  join-top v = sym (join-sign k neg (bitXor b f) v) ∙ ap (λ (z : ℤ). joinBy k z v) last-is
+  join-top : b < 128 → (k v : ℕ) → bySign neg (bitXor b f * 2 ^ k + turnOf neg k v) ≡ joinBy k (lastOf s b) v
+  join-top small k v = sym (join-sign k neg (bitXor b f) v) ∙ ap (λ (z : ℤ). joinBy k z v) (last-is small)
+
+  -- tested by the bits left for it
+  pub within-is : (N : ℕ) {j : ℕ} → b < 128 → j ≡ N - signBits s → eqb (bitXor b f / 2 ^ j) 0 ≡ within s N (lastOf s b)
+  within-is N {j} small e = above-test (bitXor b f) j ∙ sym (within-top small N ∙ rw e)
 
   -- all seven bits within the width, and read already: o has the bits to turn over
-  module _ (v : ℕ) {o : ℕ} (read : v / 2 ^ k ≡ b) (all : o ≡ onesOf neg (k + 7)) where
+  module _ {k v o : ℕ} (w : WholeByte k b v) (all : o ≡ onesOf neg (k + 7)) where
     whole-is : bitXor v o ≡ bitXor b f * 2 ^ k + turnOf neg k (v % 2 ^ k)
     whole-is =
-        let e : v ≡ b * 2 ^ k + v % 2 ^ k = split-at k v b read in
+        let small = w .small in
+        let e : v ≡ b * 2 ^ k + v % 2 ^ k = split-at k v b (w .is) in
         let l : v < 2 ^ (k + 7) = rw e (below k b (v % 2 ^ k) small (low-part k v)) in
-        rw (all, turned neg (k + 7) v l, top-is) (ap (turnOf neg (k + 7)) e ∙ turn-whole neg k b (v % 2 ^ k) small (low-part k v))
+        rw (all, turned neg (k + 7) v l, top-is small) (ap (turnOf neg (k + 7)) e ∙ turn-whole neg k b (v % 2 ^ k) small (low-part k v))
 
-    pub whole-top : bitXor v o / 2 ^ k ≡ bitXor b f
-    whole-top = rw whole-is (digits-div (bitXor b f) (turn-small neg k (v % 2 ^ k) (low-part k v)))
+    pub whole-topped : Topped k (bitXor b f) (bitXor v o)
+    whole-topped = record { fits = omega (arith, w .fits); groups = w .groups; is = rw whole-is (digits-div (bitXor b f) (turn-small neg k (v % 2 ^ k) (low-part k v))) }
 
-    pub whole-value : bySign neg (bitXor v o) ≡ joinBy k (lastOf s b) (v % 2 ^ k)
-    whole-value = rw whole-is (join-top (v % 2 ^ k))
+    pub whole-value : (p : ℕ) {r : Parts} → r ≡ shortAt s k (bySign neg (bitXor v o)) p → r ≡ shortAt s k (joinBy k (lastOf s b) (v % 2 ^ k)) p
+    whole-value p e = e ∙ ap (λ (z : ℤ). shortAt s k z p) (rw whole-is (join-top (w .small) k (v % 2 ^ k)))
 
-  -- j bits of it within the width, and v read below it
-  module _ (j v : ℕ) {o : ℕ} (fits : bitXor b f < 2 ^ j) (room : j + k ≤ 64) (low : v < 2 ^ k) (all : o ≡ onesOf neg k) where
-    part-is : bitOr (bitXor b f * 2 ^ k % 2 ^ 64) (bitXor v o) ≡ bitXor b f * 2 ^ k + turnOf neg k v
-    part-is = rw (all, turned neg k v low) (in-front j k (bitXor b f) (turnOf neg k v) fits room (turn-small neg k v low))
+  -- N bits of it within the width, and v read below it
+  module _ {N k v j : ℕ} (c : CutByte N k b v) (left : j ≡ N - signBits s) where
+    pub over-width : (p : ℕ) → (bitXor b f / 2 ^ j ≡ 0 → ⊥) → Nothing ≡ cond (within s N (lastOf s b)) (shortAt s k (joinBy k (lastOf s b) v) p) Nothing
+    over-width p n = rw (within-top (c .small) N, ← left, le-ltb _ _ (some-above (bitXor b f) j n))
 
-    pub part-top : bitOr (bitXor b f * 2 ^ k % 2 ^ 64) (bitXor v o) / 2 ^ k ≡ bitXor b f
-    part-top = rw part-is (digits-div (bitXor b f) (turn-small neg k v low))
+    module _ (none : bitXor b f / 2 ^ j ≡ 0) where
+      pub top-fits : Fits w64 (bitXor b f)
+      top-fits =
+          let few : 2 ^ j ≤ 2 ^ 7 = pow-mono {i = j} {j = 7} (omega (arith, c .cut)) in
+          record { fits = omega (arith, none-above (bitXor b f) j none) }
 
-    pub part-value : bySign neg (bitOr (bitXor b f * 2 ^ k % 2 ^ 64) (bitXor v o)) ≡ joinBy k (lastOf s b) v
-    part-value = rw part-is (join-top v)
+      module _ {o : ℕ} (all : o ≡ onesOf neg k) where
+        part-is : bitOr (bitXor b f * 2 ^ k % 2 ^ 64) (bitXor v o) ≡ bitXor b f * 2 ^ k + turnOf neg k v
+        part-is =
+            rw (all, turned neg k v (c .below))
+            (in-front j k (bitXor b f) (turnOf neg k v) (none-above (bitXor b f) j none) (omega (arith, c .fits)) (turn-small neg k v (c .below)))
+
+        pub part-topped : Topped k (bitXor b f) (bitOr (bitXor b f * 2 ^ k % 2 ^ 64) (bitXor v o))
+        part-topped = record { fits = omega (arith, c .some, c .fits); groups = c .groups; is = rw part-is (digits-div (bitXor b f) (turn-small neg k v (c .below))) }
+
+        pub part-value : (p : ℕ) {r : Parts} → r ≡ shortAt s k (bySign neg (bitOr (bitXor b f * 2 ^ k % 2 ^ 64) (bitXor v o))) p
+            → r ≡ cond (within s N (lastOf s b)) (shortAt s k (joinBy k (lastOf s b) v) p) Nothing
+        part-value p e =
+            rw (within-top (c .small) N, ← left, lt-ltb _ _ (none-above (bitXor b f) j none))
+            (e ∙ ap (λ (z : ℤ). shortAt s k z p) (rw part-is (join-top (c .small) k v)))
 
 pub one-up : (k : ℕ) → k < 64 → 1 * 2 ^ k % 2 ^ 64 ≡ 2 ^ k
 one-up k h = shl-exact {a = 1} 1 k 64 (omega arith) (omega arith) ∙ omega arith

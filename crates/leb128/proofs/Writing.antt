@@ -6,7 +6,9 @@ use mathlib.Core.List.{[], _∷_}
 use Prim.Native.Nat.{ℕ, _+_, _-_, _*_, _/_, _%_, _≤_, _<_, _^_}
 use native.Mathlib.Nat.{mod-eq-of-lt}
 use native.Mathlib.Omega.{arith}
-use lib.Bits.{bitAnd, bitOr, bitXor, and-mask, or-shifted-r, xor-zero-r, xor-add-and}
+use mir.Syntax.{w8, w64}
+use mir.Val.{Fits}
+use lib.Bits.{bitAnd, bitOr, bitXor, and-le-r, and-mask, or-shifted-r, xor-zero-r, xor-add-and}
 use borrow.Author.Tests.{leb-true, leb-false}
 use lib.Dec.{leb as le}
 use lib.IntN.{ℤ, pos}
@@ -55,6 +57,12 @@ module _ (s neg : Bool) (w : ℕ) {f : ℕ} (is : f ≡ onesOf neg 7) where
   leb-step h =
       leb-more s (bySign neg w) (omega (arith, mag-sign neg w))
       ∙ rw (is, group neg w, marked (low (bySign neg w)) (low-small (bySign neg w)), shr-sign neg w)
+
+pub group-fits : (w : ℕ) → Fits w8 (bitAnd w 127)
+group-fits w = record { fits = omega (arith, and-le-r w 127) }
+
+pub group-fits-wide : (w : ℕ) → Fits w64 (bitAnd w 127)
+group-fits-wide w = record { fits = omega (arith, and-le-r w 127) }
 
 -- ---- room
 

@@ -1,5 +1,5 @@
 -- A number by its sign and its magnitude, as the code has it, and what was read of some bytes in that form.
-use Prim.Native.Nat.{ℕ, _+_, _-_, _*_, _^_}
+use Prim.Native.Nat.{ℕ, _+_, _-_, _*_, _/_, _%_, _≤_, _<_, _^_}
 use mathlib.Core.Path.{_≡_, refl}
 use mathlib.Core.Bool.{Bool, true, false, cond}
 use mathlib.Core.List.{List}
@@ -42,3 +42,27 @@ partsOf s (got z r) = partsAt z (placeOf s r)
 -- z, read up to p, unless k / 7 bytes were enough for it: then it is not in its shortest form
 abbrev pub shortAt : Bool → ℕ → ℤ → ℕ → Parts
 shortAt s k z p = cond (isLe (7 * length (leb s z)) k) parts.Nothing (partsAt z p)
+
+-- ---- what the steps of the reader ask
+
+-- k bits of whole groups stand below the last one, `top`, of the magnitude a
+pub record Topped (k top a : ℕ) : Type 0 where
+  pub fits : k < 64
+  pub groups : k % 7 ≡ 0
+  pub is : a / 2 ^ k ≡ top
+
+-- the last byte b, all of it within the width, is the last group of v
+pub record WholeByte (k b v : ℕ) : Type 0 where
+  pub fits : k + 7 < 64
+  pub groups : k % 7 ≡ 0
+  pub small : b < 128
+  pub is : v / 2 ^ k ≡ b
+
+-- for the last byte b, behind k bits, N bits are left
+pub record CutByte (N k b low : ℕ) : Type 0 where
+  pub some : 1 ≤ N
+  pub cut : N < 7
+  pub fits : N + k ≤ 64
+  pub groups : k % 7 ≡ 0
+  pub below : low < 2 ^ k
+  pub small : b < 128

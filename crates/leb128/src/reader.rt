@@ -3,13 +3,13 @@ use crate::Parts;
 use crate::writer::flip;
 ghost use mathlib.Core.Path.{_≡_};
 ghost use mathlib.Core.Bool.{cond, _&&_};
-ghost use Prim.Native.Nat.{_+_, _-_, _*_, _/_, _%_, _≤_, _<_, _^_};
+ghost use Prim.Native.Nat.{_-_, _*_, _%_, _≤_, _<_, _^_};
 ghost use lib.Dec.{leb as isLe};
 ghost use lib.IntN.{pos};
 ghost use lib.ListN.{length, drop};
 ghost use Rattle.leb128.specs.Leb.{within, leb, lastOf, short};
 ghost use Rattle.leb128.specs.LebLaws.{signBits};
-ghost use Rattle.leb128.specs.Parts.{bySign, onesOf, joinBy, shortAt, partsOf};
+ghost use Rattle.leb128.specs.Parts.{bySign, onesOf, joinBy, shortAt, partsOf, Topped, WholeByte, CutByte};
 ghost use Rattle.leb128.specs.declared.Parts.the-variants.{Nothing};
 
 // Whether a last byte's sign bit is set.
@@ -49,7 +49,7 @@ fn shorter(signed: bool, a: u64, shift: u32) -> bool
 
 // The shortest form only: with anything in its last group, `top`, a number needs it.
 fn shortest(signed: bool, neg: bool, top: u8, a: u64, shift: u32, end: usize) -> Parts
-    requires { ⌜ (shift < 64) × (shift % 7 ≡ 0) × (a / 2 ^ shift ≡ top) ⌝ }
+    requires { ⌜ Topped shift top a ⌝ }
     ensures { λ r. ⌜ r ≡ shortAt signed shift (bySign neg a) end ⌝ }
 {
     if top == 0 {
@@ -62,7 +62,7 @@ fn shortest(signed: bool, neg: bool, top: u8, a: u64, shift: u32, end: usize) ->
 
 // A last byte whose seven bits are all within the width: v is all that was read.
 fn whole(signed: bool, b: u8, v: u64, shift: u32, end: usize) -> Parts
-    requires { ⌜ (shift + 7 < 64) × (shift % 7 ≡ 0) × (b < 128) × (v / 2 ^ shift ≡ b) ⌝ }
+    requires { ⌜ WholeByte shift b v ⌝ }
     ensures { λ r. ⌜ r ≡ shortAt signed shift (joinBy shift (lastOf signed b) (v % 2 ^ shift)) end ⌝ }
 {
     let neg = sign(signed, b);
@@ -92,7 +92,7 @@ pub fn is_within(signed: bool, bits: u32, b: u8) -> bool
 
 // The last byte that the width allows, with so many bits left for it.
 fn last(signed: bool, bits: u32, b: u8, low: u64, shift: u32, end: usize) -> Parts
-    requires { ⌜ (1 ≤ bits) × (bits < 7) × (bits + shift ≤ 64) × (shift % 7 ≡ 0) × (low < 2 ^ shift) × (b < 128) ⌝ }
+    requires { ⌜ CutByte bits shift b low ⌝ }
     ensures { λ r. ⌜ r ≡ cond (within signed bits (lastOf signed b)) (shortAt signed shift (joinBy shift (lastOf signed b) low) end) Nothing ⌝ }
 {
     let neg = sign(signed, b);

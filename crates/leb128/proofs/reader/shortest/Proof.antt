@@ -12,7 +12,7 @@ returns-2 : tie.Need-returns-2
 returns-2 c = let a = c .before .before .before .args in sym (short-is (a .signed) (a .neg) (a .a) (a .shift) (a .end) (sym (c .before .shorter .ensures) ∙ c .if2 .left))
 
 returns-3 : tie.Need-returns-3
-returns-3 c = let a = c .before .args in let p = c .before .pre in sym (short-is (a .signed) (a .neg) (a .a) (a .shift) (a .end) (needs-top (a .signed) (a .a) (a .shift) (p .1) (λ e. c .if1 .left (sym (p .2) ∙ e))))
+returns-3 c = let a = c .before .args in sym (short-is (a .signed) (a .neg) (a .a) (a .shift) (a .end) (needs-top (a .signed) (a .a) (a .shift) (c .before .pre .groups) (λ e. c .if1 .left (sym (c .before .pre .is) ∙ e))))
 
 pub shortest-spec : {M : Type 1} → statement M
 shortest-spec = tie.close (tie.spec (λ c κs. search needs) returns returns-2 returns-3)
