@@ -143,15 +143,22 @@ shorter-groups s a m j e =
     (λ (g : a < 2 ^ j). eq-eqb (a / 2 ^ j) 0 (div-eq-of-lt g) ∙ sym (le-leb (7 * length (leb s (pos a))) (7 * (m + 1)) (omega (arith, bytes-at-most m s (pos a) (omega arith)))))
     (fits-or (2 ^ j) a)
 
-pub shorter-more : (s : Bool) (a k j : ℕ) → (k ≡ 0 → ⊥) → k % 7 ≡ 0 → j ≡ k - signBits s → eqb (a / 2 ^ j) 0 ≡ isLe (7 * length (leb s (pos a))) k
-shorter-more s a k j n h e =
-    let m = k / 7 - 1 in
-    let x : 7 * (m + 1) ≡ k = omega arith in
-    rw x at (shorter-groups s a m j (e ∙ bits s))
-  where
-    bits : (s : Bool) → k - signBits s ≡ 7 * (k / 7 - 1) + (7 - signBits s)
-    bits true = omega arith
-    bits false = omega arith
+module _ (s : Bool) (a k : ℕ) (some : k ≡ 0 → ⊥) (groups : k % 7 ≡ 0) where
+  shorter-more : (j : ℕ) → j ≡ k - signBits s → eqb (a / 2 ^ j) 0 ≡ isLe (7 * length (leb s (pos a))) k
+  shorter-more j e =
+      let m = k / 7 - 1 in
+      let x : 7 * (m + 1) ≡ k = omega (arith, some) in
+      rw x at (shorter-groups s a m j (e ∙ bits s))
+    where
+      bits : (s : Bool) → k - signBits s ≡ 7 * (k / 7 - 1) + (7 - signBits s)
+      bits true = omega (arith, some)
+      bits false = omega (arith, some)
+
+  pub shorter-signed : s ≡ true → eqb (a / 2 ^ (k - 1)) 0 ≡ isLe (7 * length (leb s (pos a))) k
+  shorter-signed e = shorter-more (k - 1) (rw e)
+
+  pub shorter-plain : s ≡ false → eqb (a / 2 ^ k) 0 ≡ isLe (7 * length (leb s (pos a))) k
+  shorter-plain e = shorter-more k (rw e (omega arith))
 
 -- with anything in its last group a number needs it
 pub needs-top : (s : Bool) (a k : ℕ) → k % 7 ≡ 0 → (a / 2 ^ k ≡ 0 → ⊥) → isLe (7 * length (leb s (pos a))) k ≡ false
@@ -232,13 +239,34 @@ module _ (s : Bool) (b : ℕ) {neg : Bool} {f : ℕ} (is : neg ≡ s && isLe 64 
             rw (within-top (c .small) N, ← left, lt-ltb _ _ (none-above (bitXor b f) j none))
             (e ∙ ap (λ (z : ℤ). shortAt s k z p) (rw part-is (join-top (c .small) k v)))
 
-pub one-up : (k : ℕ) → k < 64 → 1 * 2 ^ k % 2 ^ 64 ≡ 2 ^ k
-one-up k h = shl-exact {a = 1} 1 k 64 (omega arith) (omega arith) ∙ omega arith
+-- ---- the bits to turn over
 
--- the answer, by the test
-pub short-is : (s neg : Bool) (a k p : ℕ) {t : Bool} → isLe (7 * length (leb s (pos a))) k ≡ t → shortAt s k (bySign neg a) p ≡ cond t Nothing (Value neg a p)
-short-is s neg a k p {t} e = rw (length-sign s neg a, e) (ap (cond t Nothing) (parts neg))
-  where
-    parts : (neg : Bool) → partsAt (bySign neg a) p ≡ Value neg a p
-    parts true = refl
-    parts false = refl
+module _ (k : ℕ) (h : k < 64) where
+  one-up : 1 * 2 ^ k % 2 ^ 64 ≡ 2 ^ k
+  one-up = shl-exact {a = 1} 1 k 64 (omega arith) (omega arith) ∙ omega arith
+
+  pub one-there : 1 ≤ 1 * 2 ^ k % 2 ^ 64
+  one-there = omega (arith, one-up, pow-pos k)
+
+  pub ones-turned : {neg : Bool} → neg ≡ true → 1 * 2 ^ k % 2 ^ 64 - 1 ≡ onesOf neg k
+  ones-turned e = rw (e, one-up)
+
+-- ---- the answer
+
+module _ (s neg : Bool) (a k p : ℕ) where
+  -- by the test
+  short-is : {t : Bool} → isLe (7 * length (leb s (pos a))) k ≡ t → shortAt s k (bySign neg a) p ≡ cond t Nothing (Value neg a p)
+  short-is {t} e = rw (length-sign s neg a, e) (ap (cond t Nothing) (parts neg))
+    where
+      parts : (neg : Bool) → partsAt (bySign neg a) p ≡ Value neg a p
+      parts true = refl
+      parts false = refl
+
+  pub short-less : {t : Bool} → t ≡ isLe (7 * length (leb s (pos a))) k → t ≡ true → Nothing ≡ shortAt s k (bySign neg a) p
+  short-less e y = sym (short-is (sym e ∙ y))
+
+  pub short-enough : {t : Bool} → t ≡ isLe (7 * length (leb s (pos a))) k → t ≡ false → Value neg a p ≡ shortAt s k (bySign neg a) p
+  short-enough e n = sym (short-is (sym e ∙ n))
+
+  pub short-topped : {top : ℕ} → Topped k top a → (top ≡ 0 → ⊥) → Value neg a p ≡ shortAt s k (bySign neg a) p
+  short-topped t n = sym (short-is (needs-top s a k (t .groups) (λ e. n (sym (t .is) ∙ e))))
