@@ -4,7 +4,7 @@ use mathlib.Core.Logic.{⊎-elim}
 use mathlib.Core.Bool.{Bool, true, false, not}
 use mathlib.Core.List.{List, [], _∷_}
 use Prim.Native.Nat.{ℕ, _+_, _-_, _*_, _/_, _%_, _≤_, _<_, _^_}
-use native.Mathlib.Nat.{mod-eq-of-lt}
+use native.Mathlib.Nat.{mod-eq-of-lt, div-lt-self}
 use native.Mathlib.Omega.{arith}
 use mir.Syntax.{w8, w64}
 use mir.Val.{Fits}
@@ -88,8 +88,8 @@ pub ten-fits : (s : Bool) (a room : ℕ) → Fits w64 a → 10 ≤ room → true
 ten-fits s a room f h = sym (le-leb (length (leb s (pos a))) room (omega (arith, ten s a (f .fits))))
 
 -- l is the limit of what a last byte holds, as the code has it
-pub less-left : (s : Bool) {w l : ℕ} → l ≡ limit s → l ≤ w → w / 128 < w
-less-left s e h = omega (arith, limit-some s)
+pub less-left : (s : Bool) (w n : ℕ) {l : ℕ} → l ≡ limit s → l ≤ w → 1 < n → w / n < w
+less-left s w n e h m = div-lt-self (omega (arith, limit-some s)) m
 
 -- ---- how many bytes: n are counted of those of a, and the last one of w, which is left, is among them
 

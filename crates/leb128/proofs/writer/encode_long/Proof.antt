@@ -1,5 +1,6 @@
 -- `leb128::writer::encode_long` meets its contract: what the buffer will be, once the rest w is written from place i on, stays what it is to be. Assumes nothing.
 use borrow.Author.Needs.{needs}
+use lib.Dec.{lit<}
 use Rattle.leb128.proofs.Writing.{group-fits, less-left, Put, put-short, put-starts, put-kept, put-goes-on, put-ends}
 use Rattle.leb128.proofs.writer.encode_long.Statement.{statement}
 use Rattle.leb128.proofs.writer.encode_long.Tie as tie
@@ -24,7 +25,7 @@ encode-long-spec =
     (λ c. search group-fits)
     (λ c. search needs)
     (λ c. search needs)
-    (λ c. search less-left)
+    (λ c. search (less-left, lit<))
     (λ c. search put-goes-on)
     (λ c. search group-fits)
     (λ c. search needs)

@@ -1,5 +1,6 @@
 -- `leb128::writer::size` meets its contract: what is counted and what is left to count make one more than the whole, since the last byte is counted at the start. Assumes nothing.
 use borrow.Author.Needs.{needs}
+use lib.Dec.{lit<}
 use Rattle.leb128.proofs.Writing.{less-left, Counted, count-starts, count-fits, count-goes-on, count-ends}
 use Rattle.leb128.proofs.writer.size.Statement.{statement}
 use Rattle.leb128.proofs.writer.size.Tie as tie
@@ -19,6 +20,6 @@ size-spec =
     (λ c κs. search needs)
     (λ c. search count-starts)
     (λ c. search count-fits)
-    (λ c. search less-left)
+    (λ c. search (less-left, lit<))
     (λ c. search count-goes-on)
     (λ c. search count-ends))
