@@ -4,7 +4,8 @@ use mathlib.Core.Logic.{_↔_}
 use mathlib.Core.Bool.{Bool, true, false, true≢false}
 use mathlib.Core.Option.{Option, none, some}
 use mathlib.Core.List.{List}
-use Prim.Native.Nat.{ℕ}
+use Prim.Native.Nat.{ℕ, _≤_}
+use lib.ListN.{length, drop}
 use Rattle.format.specs.Format.{Format}
 use Rattle.format.specs.Combine.{guard}
 use Rattle.format.specs.Sized.{sized}
@@ -35,3 +36,9 @@ name-exactly s = (there (run char s) refl, back)
 -- Binary Format, Names: the length in bytes, as a u32, and the bytes
 abbrev pub name : Format (List ℕ)
 name = guard (sized u32) isName
+
+-- what is between two places of s is characters, one after the other
+pub record Passed (s : List ℕ) (from at : ℕ) : Type 0 where
+  pub after : from ≤ at
+  pub within : at ≤ length s
+  pub same : isName (drop from s) ≡ isName (drop at s)

@@ -2,12 +2,11 @@
 use plain::eight_of;
 use plain::is_plain;
 ghost use mathlib.Core.Path.{_≡_};
-ghost use Prim.Native.Nat.{_+_, _≤_, _<_};
-ghost use lib.Dec.{ltb};
-ghost use lib.ListN.{length, getD, drop};
+ghost use Prim.Native.Nat.{_≤_};
+ghost use lib.ListN.{length, getD};
 ghost use Rattle.names.specs.Char.{two, three, four, wide};
-ghost use Rattle.names.specs.Name.{isName};
-ghost use Rattle.names.specs.Place.{endOf, between, lowest, past};
+ghost use Rattle.names.specs.Name.{isName, Passed};
+ghost use Rattle.names.specs.Place.{EndsAt, Begins, between, TellsMore, isSecond};
 
 // A byte; past the end 0, which is no second byte of any character.
 fn byte(s: &[u8], i: usize) -> u8
@@ -34,14 +33,14 @@ fn is_more(b: u8) -> bool
 
 // Below 0x40 where it is one: several are tested at once.
 fn above(b: u8) -> u8
-    ensures { λ r. ⌜ between 0x80 0xC0 b ≡ ltb r 0x40 ⌝ }
+    ensures { λ r. ⌜ TellsMore b r ⌝ }
 {
     b ^ 0x80
 }
 
 // A second byte of three or four, behind the first.
 fn is_second(b: u8, c: u8) -> bool
-    ensures { λ r. ⌜ r ≡ between (lowest b) (past b) c ⌝ }
+    ensures { λ r. ⌜ r ≡ isSecond b c ⌝ }
 {
     if b == 0xE0 {
         return is_between(0xA0, 0xC0, c);
@@ -60,8 +59,8 @@ fn is_second(b: u8, c: u8) -> bool
 
 // Where a character of two, three or four bytes ends that begins at a place, with byte b; 0 where none does.
 fn two_end(s: &[u8], at: usize, b: u8) -> usize
-    requires { ⌜ (at < length (now s)) × (getD (now s) at 0 ≡ b) × (b < 0xE0) ⌝ }
-    ensures { λ r. ⌜ r ≡ endOf (now (s .entry)) (two .parse (drop at (now (s .entry)))) ⌝ }
+    requires { ⌜ Begins (now s) at b 0x80 0xE0 ⌝ }
+    ensures { λ r. ⌜ EndsAt two (now (s .entry)) at r ⌝ }
 {
     if b < 0xC2 {
         return 0;
@@ -73,8 +72,8 @@ fn two_end(s: &[u8], at: usize, b: u8) -> usize
 }
 
 fn three_end(s: &[u8], at: usize, b: u8) -> usize
-    requires { ⌜ (at < length (now s)) × (getD (now s) at 0 ≡ b) × (0xE0 ≤ b) × (b < 0xF0) ⌝ }
-    ensures { λ r. ⌜ r ≡ endOf (now (s .entry)) (three .parse (drop at (now (s .entry)))) ⌝ }
+    requires { ⌜ Begins (now s) at b 0xE0 0xF0 ⌝ }
+    ensures { λ r. ⌜ EndsAt three (now (s .entry)) at r ⌝ }
 {
     if s.len() - at < 3 {
         return 0;
@@ -90,8 +89,8 @@ fn three_end(s: &[u8], at: usize, b: u8) -> usize
 }
 
 fn four_end(s: &[u8], at: usize, b: u8) -> usize
-    requires { ⌜ (at < length (now s)) × (getD (now s) at 0 ≡ b) × (0xF0 ≤ b) ⌝ }
-    ensures { λ r. ⌜ r ≡ endOf (now (s .entry)) (four .parse (drop at (now (s .entry)))) ⌝ }
+    requires { ⌜ Begins (now s) at b 0xF0 0x100 ⌝ }
+    ensures { λ r. ⌜ EndsAt four (now (s .entry)) at r ⌝ }
 {
     if 0xF4 < b {
         return 0;
@@ -110,8 +109,8 @@ fn four_end(s: &[u8], at: usize, b: u8) -> usize
 }
 
 fn wide_end(s: &[u8], at: usize, b: u8) -> usize
-    requires { ⌜ (at < length (now s)) × (getD (now s) at 0 ≡ b) ⌝ }
-    ensures { λ r. ⌜ r ≡ endOf (now (s .entry)) (wide .parse (drop at (now (s .entry)))) ⌝ }
+    requires { ⌜ Begins (now s) at b 0x80 0x100 ⌝ }
+    ensures { λ r. ⌜ EndsAt wide (now (s .entry)) at r ⌝ }
 {
     if b < 0xE0 {
         return two_end(s, at, b);
@@ -125,7 +124,7 @@ fn wide_end(s: &[u8], at: usize, b: u8) -> usize
 // The place behind plain bytes, eight at a time.
 fn eights_end(s: &[u8], at: usize) -> usize
     requires { ⌜ at ≤ length (now s) ⌝ }
-    ensures { λ r. ⌜ (at ≤ r) × (r ≤ length (now (s .entry))) × (isName (drop at (now (s .entry))) ≡ isName (drop r (now (s .entry)))) ⌝ }
+    ensures { λ r. ⌜ Passed (now (s .entry)) at r ⌝ }
 {
     let mut i = at;
     while 8 <= s.len() - i {

@@ -1,8 +1,6 @@
 -- `names::is_name` meets its contract. Assumes nothing.
-use denote.Ref.{now}
-use mathlib.Core.Path.{sym}
 use borrow.Author.Needs.{needs}
-use Rattle.names.specs.Plain.{plain-name}
+use Rattle.names.proofs.Naming.{plain-is}
 use Rattle.names.proofs.is_name.Statement.{statement}
 use Rattle.names.proofs.is_name.Tie as tie
 
@@ -12,6 +10,6 @@ is-name-spec =
     (tie.spec
     (λ c κs. search needs)
     (λ c κs. search needs)
-    (λ c. sym (plain-name (now (c .before .before .before .before .before .args .s)) (c .before .is-plain .ensures .0 (c .if2 .taken))))
+    (λ c. search plain-is)
     (λ c κs. search needs)
-    (λ c. c .is-mixed-name .ensures))
+    (λ c. search needs))
