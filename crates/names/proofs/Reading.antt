@@ -383,21 +383,9 @@ module _ {s : List ℕ} {at b r : ℕ} (B : Begins s at b 0x80 0x100) where
 -- ---- second bytes, by the first one
 
 module _ {b : ℕ} (c : ℕ) {r : Bool} where
-  pub second-e0 : b ≡ 0xE0 → r ≡ between 0xA0 0xC0 c → r ≡ isSecond b c
+  pub second-of : (lo hi : ℕ) {k : ℕ} → b ≡ k → r ≡ between lo hi c → lo ≡ lowest k → hi ≡ past k → r ≡ isSecond b c
   unfolding isSecond
-  second-e0 q e = e ∙ rw q
-
-  pub second-ed : b ≡ 0xED → r ≡ between 0x80 0xA0 c → r ≡ isSecond b c
-  unfolding isSecond
-  second-ed q e = e ∙ rw q
-
-  pub second-f0 : b ≡ 0xF0 → r ≡ between 0x90 0xC0 c → r ≡ isSecond b c
-  unfolding isSecond
-  second-f0 q e = e ∙ rw q
-
-  pub second-f4 : b ≡ 0xF4 → r ≡ between 0x80 0x90 c → r ≡ isSecond b c
-  unfolding isSecond
-  second-f4 q e = e ∙ rw q
+  second-of lo hi q e l h = e ∙ rw (q, l, h)
 
   pub second-any : (b ≡ 0xE0 → ⊥) → (b ≡ 0xED → ⊥) → (b ≡ 0xF0 → ⊥) → (b ≡ 0xF4 → ⊥) → r ≡ isMore c → r ≡ isSecond b c
   unfolding isSecond

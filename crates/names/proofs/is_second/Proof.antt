@@ -1,6 +1,6 @@
 -- `names::is_second` meets its contract. Assumes nothing.
 use borrow.Author.Needs.{needs}
-use Rattle.names.proofs.Reading.{second-e0, second-ed, second-f0, second-f4, second-any}
+use Rattle.names.proofs.Reading.{second-of, second-any}
 use Rattle.names.proofs.is_second.Statement.{statement}
 use Rattle.names.proofs.is_second.Tie as tie
 
@@ -9,12 +9,12 @@ is-second-spec =
     tie.close
     (tie.spec
     (λ c κs. search needs)
-    (λ c. search second-e0)
+    (λ c. search second-of)
     (λ c κs. search needs)
-    (λ c. search second-ed)
+    (λ c. search second-of)
     (λ c κs. search needs)
-    (λ c. search second-f0)
+    (λ c. search second-of)
     (λ c κs. search needs)
-    (λ c. search second-f4)
+    (λ c. search second-of)
     (λ c κs. search needs)
     (λ c. search second-any))
