@@ -1,5 +1,8 @@
 -- Plain bytes: those below 80, which encode a character each, the one that they are (WebAssembly Core Specification 3.0, Binary Format, Names). Assumes
 -- nothing.
+use mathlib.Core.Path.{_≡_}
+use mathlib.Core.Logic.{_↔_}
+use mathlib.Core.Bool.{Bool, true}
 use mathlib.Core.List.{List}
 use Prim.Native.Nat.{ℕ, _≤_, _<_}
 use lib.ListN.{length, getD}
@@ -16,3 +19,7 @@ IsPlain s = Plain s 0 (length s)
 pub record Bits (s : List ℕ) (i j b : ℕ) : Type 0 where
   pub told : b < 0x80 → Plain s i j
   pub back : Plain s i j → b < 0x80
+
+-- r tells whether all are
+pub record Tells (s : List ℕ) (r : Bool) : Type 0 where
+  pub is : (r ≡ true) ↔ IsPlain s

@@ -9,8 +9,8 @@ is-plain-spec =
     tie.close
     (tie.spec
     (λ c κs. search needs)
-    (λ c. c .is-few-plain .ensures)
+    (λ c. c .is-few-plain .ensures .is)
     (λ c κs. search needs)
     (λ c. bits-all (c .ends-of .ensures))
     (λ c κs. search needs)
-    (λ c. c .is-long-plain .ensures))
+    (λ c. c .is-long-plain .ensures .is))
