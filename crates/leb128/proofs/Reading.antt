@@ -25,14 +25,14 @@ use Rattle.leb128.proofs.Writing.{turnOf, turned, length-sign}
 
 -- ---- bits above a place
 
-pub none-above : (b k : ℕ) → b / 2 ^ k ≡ 0 → b < 2 ^ k
+none-above : (b k : ℕ) → b / 2 ^ k ≡ 0 → b < 2 ^ k
 none-above b k e = let h : b < 1 * 2 ^ k = div-lt-iff-lt-mul (pow-pos k) .0 (omega arith) in omega arith
 
-pub some-above : (b k : ℕ) → (b / 2 ^ k ≡ 0 → ⊥) → 2 ^ k ≤ b
+some-above : (b k : ℕ) → (b / 2 ^ k ≡ 0 → ⊥) → 2 ^ k ≤ b
 some-above b k n = ⊎-elim (λ (h : 2 ^ k ≤ b). h) (λ (h : b < 2 ^ k). absurd (n (div-eq-of-lt h))) (fits-or (2 ^ k) b)
 
 -- as a test
-pub above-test : (b k : ℕ) → eqb (b / 2 ^ k) 0 ≡ ltb b (2 ^ k)
+above-test : (b k : ℕ) → eqb (b / 2 ^ k) 0 ≡ ltb b (2 ^ k)
 above-test b k = go (eqb (b / 2 ^ k) 0) refl
   where
     go : (t : Bool) → eqb (b / 2 ^ k) 0 ≡ t → t ≡ ltb b (2 ^ k)
@@ -45,7 +45,7 @@ above-test b k = go (eqb (b / 2 ^ k) 0) refl
 pub behind : (k b v : ℕ) → 7 + k ≤ 64 → v < 2 ^ k → bitOr v (bitAnd b 127 * 2 ^ k % 2 ^ 64) ≡ b % 128 * 2 ^ k + v
 behind k b v l f = rw (and-mask b 7, shl-exact {a = b % 128} 7 k 64 (omega arith) l) (or-shifted-r (b % 128) k v f)
 
-pub in-front : (j k d v : ℕ) → d < 2 ^ j → j + k ≤ 64 → v < 2 ^ k → bitOr (d * 2 ^ k % 2 ^ 64) v ≡ d * 2 ^ k + v
+in-front : (j k d v : ℕ) → d < 2 ^ j → j + k ≤ 64 → v < 2 ^ k → bitOr (d * 2 ^ k % 2 ^ 64) v ≡ d * 2 ^ k + v
 in-front j k d v h l g = rw (shl-exact j k 64 h l) (or-shifted d k v g)
 
 pub below : (k d v : ℕ) → d < 128 → v < 2 ^ k → d * 2 ^ k + v < 2 ^ (k + 7)
@@ -77,11 +77,11 @@ join-more k z d v h f = go z
 
 -- ---- a last byte, by its sign
 
-pub turn-small : (neg : Bool) (k x : ℕ) → x < 2 ^ k → turnOf neg k x < 2 ^ k
+turn-small : (neg : Bool) (k x : ℕ) → x < 2 ^ k → turnOf neg k x < 2 ^ k
 turn-small true k x h = omega arith
 turn-small false k x h = h
 
-pub sign-last : (s : Bool) (b : ℕ) → b < 128 → bySign (s && isLe 64 b) (turnOf (s && isLe 64 b) 7 b) ≡ lastOf s b
+sign-last : (s : Bool) (b : ℕ) → b < 128 → bySign (s && isLe 64 b) (turnOf (s && isLe 64 b) 7 b) ≡ lastOf s b
 sign-last false b h = refl
 sign-last true b h =
     ⊎-elim
@@ -89,12 +89,12 @@ sign-last true b h =
     (λ (k : b < 64). rw (lt-leb 64 b k, lt-ltb b 64 k))
     (fits-or 64 b)
 
-pub join-sign : (k : ℕ) (neg : Bool) (t v : ℕ) → joinBy k (bySign neg t) v ≡ bySign neg (t * 2 ^ k + turnOf neg k v)
+join-sign : (k : ℕ) (neg : Bool) (t v : ℕ) → joinBy k (bySign neg t) v ≡ bySign neg (t * 2 ^ k + turnOf neg k v)
 join-sign k true t v = refl
 join-sign k false t v = refl
 
 -- only a number that has a sign is negative
-pub within-sign : (s x : Bool) (N t : ℕ) → within s N (bySign (s && x) t) ≡ ltb t (2 ^ (N - signBits s))
+within-sign : (s x : Bool) (N t : ℕ) → within s N (bySign (s && x) t) ≡ ltb t (2 ^ (N - signBits s))
 within-sign false x N t = let e : N - 0 ≡ N = omega arith in rw e
 within-sign true true N t = refl
 within-sign true false N t = refl
@@ -114,17 +114,17 @@ pub all-within : (s : Bool) (N b : ℕ) → b < 128 → 7 ≤ N → true ≡ wit
 all-within s N b h l = sym (within-whole s N b h l)
 
 -- all that was read, turned over at once
-pub turn-whole : (neg : Bool) (k d v : ℕ) → d < 128 → v < 2 ^ k → turnOf neg (k + 7) (d * 2 ^ k + v) ≡ turnOf neg 7 d * 2 ^ k + turnOf neg k v
+turn-whole : (neg : Bool) (k d v : ℕ) → d < 128 → v < 2 ^ k → turnOf neg (k + 7) (d * 2 ^ k + v) ≡ turnOf neg 7 d * 2 ^ k + turnOf neg k v
 turn-whole false k d v h f = refl
 turn-whole true k d v h f =
     let e : 2 ^ (k + 7) ≡ 2 ^ k * 128 = pow-add 2 k 7 in
     rw e (omega (arith, seven-up k d h))
 
 -- the groups of v
-pub split-at : (k v b : ℕ) → v / 2 ^ k ≡ b → v ≡ b * 2 ^ k + v % 2 ^ k
+split-at : (k v b : ℕ) → v / 2 ^ k ≡ b → v ≡ b * 2 ^ k + v % 2 ^ k
 split-at k v b e = sym (split v k) ∙ ap (λ (x : ℕ). x * 2 ^ k + v % 2 ^ k) e
 
-pub low-part : (k v : ℕ) → v % 2 ^ k < 2 ^ k
+low-part : (k v : ℕ) → v % 2 ^ k < 2 ^ k
 low-part k v = mod-lt v (pow-pos k)
 
 -- ---- the shortest form: whether as few bytes as there are groups in k bits would do is told by the bits above those that they hold
@@ -161,7 +161,7 @@ module _ (s : Bool) (a k : ℕ) (some : k ≡ 0 → ⊥) (groups : k % 7 ≡ 0) 
   shorter-plain e = shorter-more k (rw e (omega arith))
 
 -- with anything in its last group a number needs it
-pub needs-top : (s : Bool) (a k : ℕ) → k % 7 ≡ 0 → (a / 2 ^ k ≡ 0 → ⊥) → isLe (7 * length (leb s (pos a))) k ≡ false
+needs-top : (s : Bool) (a k : ℕ) → k % 7 ≡ 0 → (a / 2 ^ k ≡ 0 → ⊥) → isLe (7 * length (leb s (pos a))) k ≡ false
 needs-top s a k h n = ⊎-elim none some (fits-or k 0)
   where
     none : k ≤ 0 → isLe (7 * length (leb s (pos a))) k ≡ false

@@ -21,7 +21,7 @@ use Rattle.names.specs.Utf8.{surrogate}
 use Rattle.names.specs.Char.{from, more, below, one, two, three, four, long, wide, char, apart-any, apart-wide, apart-long, twoValue, threeValue, fourValue}
 use Rattle.names.specs.Place.{endOf, EndsAt, Begins, between, TellsMore, lowest, past, isSecond}
 
-abbrev pub isMore : ℕ → Bool
+abbrev isMore : ℕ → Bool
 isMore b = between 0x80 0xC0 b
 
 between-true : (lo hi b : ℕ) → between lo hi b ≡ true → (lo ≤ b) × (b < hi)
