@@ -1,12 +1,13 @@
 -- The elements of a segment in words: the kind, and functions, or a type and expressions. Assumes nothing.
 use mathlib.Core.Path.{_≡_, refl, sym, subst}
-use mathlib.Core.Bool.{Bool, true, false, not}
+use mathlib.Core.Bool.{Bool, true, false, not, cond}
 use mathlib.Core.List.{List, [], _∷_}
 use Prim.Native.Nat.{ℕ, _+_, _-_, _<_, _≤_, min}
 use lib.Dec.{eqb}
 use lib.ListN.{length, getD, drop}
-use Rattle.format.specs.Parsed.{map-same}
-use Rattle.format.specs.Basic.{bit, flag}
+use Rattle.format.specs.Parsed.{Parsed, fail, bind, map, map-same}
+use Rattle.format.specs.Basic.{bit, flag, tag, lit}
+use Rattle.format.specs.Format.{Format}
 use Rattle.format.specs.Count.{Appends, noRefusal, silent, adds-nil, adds-seq}
 use Rattle.format.specs.Lists.{many}
 use Rattle.format.specs.Read.{one-read, none-read}
@@ -35,9 +36,8 @@ use Rattle.elements.specs.Item.{flagOf}
 use Rattle.elements.specs.Members.{funcref}
 use Rattle.elements.specs.Segment.{ElementsOf, elementsWordsOf, elementsWords}
 use Rattle.elements.specs.Written.{isOther, headOf, typeOf, functionsOf, expressionsOf, expressionsLow, elementsFrom, elementsOf, lowFrom, elementsLow}
-use Rattle.elements.specs.declared.Mode.{Mode}
-use Rattle.elements.specs.declared.Mode.the-variants.{Active}
-use Rattle.elements.proofs.Tags.{unused-joins}
+use Rattle.modes.specs.declared.Mode.{Mode}
+use Rattle.modes.specs.declared.Mode.the-variants.{Active}
 
 -- ---- the flag
 
@@ -84,6 +84,25 @@ module _ (said : Bool) (t : List ℕ) where
     type-then-list x e y = second-follows expressions-joins x e (y .writes)
 
 -- ---- two unused words, and functions
+
+module _ {A : Type 0} (F : Format A) (f : A → List ℕ) where
+  abbrev then : Unit {0} → List ℕ → Parsed A
+  then u r = map (λ x. x) (F .parse r)
+
+  pass : (b : Bool) (m : Parsed A) (n : Parsed (Unit {0})) → m ≡ bind n then → cond b m fail ≡ bind (cond b n fail) then
+  pass true m n e = e
+  pass false m n e = refl
+
+  second : (s : List ℕ) → tag 0 F .parse s ≡ bind (lit 0 .parse s) then
+  second [] = refl
+  second (y ∷ s) = pass (eqb y 0) _ _ (map-same (F .parse s))
+
+  both : (s : List ℕ) → tag 0 (tag 0 F) .parse s ≡ bind (unused .parse s) then
+  both [] = refl
+  both (x ∷ s) = pass (eqb x 0) _ _ (second s)
+
+  pub unused-joins : Joins (unused .parse) (λ u. []) silent (F .parse) f silent (tag 0 (tag 0 F) .parse) f silent
+  unused-joins = record { ends = leaves unused; join = λ u x. x; reads = both; writes = λ u x. refl; draws = λ u x. refl }
 
 module _ (said : Bool) {w : List ℕ} {at : ℕ} {old : List ℕ} {s : Done} {r : Walk} (x : (o : List ℕ) → Walks unused (λ u. []) silent w at o s o r) where
   pub unused-missing : r ≡ walks.No → Walks (elementsWordsOf false) (functionsOf said) silent w at old s old walks.No

@@ -2,7 +2,7 @@
 use mathlib.Core.Path.{_≡_, refl, sym, ap, _∙_}
 use mathlib.Core.Bool.{Bool, true, false}
 use mathlib.Core.List.{List, [], _∷_}
-use Prim.Native.Nat.{ℕ, _+_, _<_, _≤_}
+use Prim.Native.Nat.{ℕ, suc, _+_, _<_, _≤_}
 use native.Mathlib.Omega.{arith}
 use lib.Dec.{leb}
 use lib.ListN.{length, getD, drop}
@@ -16,12 +16,26 @@ use Rattle.format.specs.declared.Done.{Done}
 use Rattle.format.specs.declared.Walk.{Walk}
 use Rattle.format.specs.declared.Walk.the-variants as walks
 use Rattle.parts.specs.Reading.{Reading, part-missing, part-follows}
-use Rattle.elements.specs.Mode.{modeWords, place}
+use Rattle.modes.specs.Mode.{modeWords, place}
 use Rattle.elements.specs.Members.{members}
 use Rattle.elements.specs.Item.{code, flagOf, flag-small, flagByte, isTyped, body, bytes}
 use Rattle.elements.specs.Section.{elementSection, record-prints}
-use Rattle.elements.specs.declared.Mode.{Mode}
+use Rattle.modes.specs.declared.Mode.{Mode}
+use Rattle.modes.specs.declared.Mode.the-variants.{Declared}
 use Rattle.elements.proofs.Lists.{as-members}
+
+-- ---- a flag that is none of 0 to 6 is 7
+
+past : (n f : ℕ) → n ≤ f → (f ≡ n → ⊥) → suc n ≤ f
+past n f h k = omega arith
+
+pub last-flag : (f : ℕ) → f ≤ 7 → (f ≡ 0 → ⊥) → (f ≡ 1 → ⊥) → (f ≡ 2 → ⊥) → (f ≡ 3 → ⊥) → (f ≡ 4 → ⊥) → (f ≡ 5 → ⊥) → (f ≡ 6 → ⊥) → flagOf Declared (leb 4 f) ≡ f
+last-flag f k a b c d e g i =
+    let h : 7 ≤ f = past 6 f (past 5 f (past 4 f (past 3 f (past 2 f (past 1 f (past 0 f (omega arith) a) b) c) d) e) g) i in
+    let z : f ≡ 7 = omega arith in
+    rw z
+
+-- ---- the body behind it
 
 module _ {b : List ℕ} {at : ℕ} {old : List ℕ} {s : Done} {new : List ℕ} where
   module _ (h : at < length b) where

@@ -4,7 +4,7 @@ use mathlib.Core.Bool.{Bool, true, false}
 use mathlib.Core.List.{List, [], _∷_}
 use Prim.Native.Nat.{ℕ, _+_, _<_, _≤_}
 use native.Mathlib.Omega.{arith}
-use lib.ListN.{length, getD}
+use lib.ListN.{length, getD, length-append}
 use Rattle.format.specs.Count.{Appends, silent, adds-seq}
 use Rattle.format.specs.Lists.{many}
 use Rattle.format.specs.Walk.{Walks, nothing-left, nothing-there}
@@ -12,6 +12,7 @@ use Rattle.format.specs.declared.Done.{Done}
 use Rattle.format.specs.declared.Walk.{Walk}
 use Rattle.format.specs.declared.Walk.the-variants as walks
 use Rattle.leb128.specs.Formats.{u32}
+use Rattle.exprs.specs.Grammar.{Expr, stop, more}
 use Rattle.exprs.specs.Laws.{expr}
 use Rattle.words.specs.Words.{word}
 use Rattle.texts.specs.Spans.{span}
@@ -23,9 +24,13 @@ use Rattle.parts.specs.Both.{both}
 use Rattle.parts.specs.Listed.{listed}
 use Rattle.parts.specs.Reading.{Reading, part-missing, part-follows, behind-reads, words-before}
 use Rattle.elements.specs.Members.{indices, functions, refType, expressions, funcrefs, members}
-use Rattle.elements.proofs.Tags.{tag-not, stands, expr-long}
+use Rattle.modes.proofs.Tags.{tag-not, stands}
 
--- an expression takes a byte, and its span a word
+-- an expression takes a byte at least, and its span a word
+expr-long : {e : List ℕ} → Expr e → 0 < length e
+expr-long stop = omega arith
+expr-long (more a e i x) = omega (arith, length-append a e, expr-long x)
+
 pub byte-each : (x : List ℕ) → expr .Ok x → 0 < length (expr .print x)
 byte-each x ok = expr-long ok
 

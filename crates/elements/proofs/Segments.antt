@@ -20,15 +20,15 @@ use Rattle.format.specs.declared.Walk.{Walk}
 use Rattle.format.specs.declared.Walk.the-variants as walks
 use Rattle.texts.specs.declared.Span.{Span}
 use Rattle.parts.specs.Writing.{Writing, itemOf, lowOf, lowest-behind}
-use Rattle.elements.specs.Mode.{modeWords, modeRead, PlaceOf, place}
+use Rattle.modes.specs.Mode.{modeWords, modeRead, PlaceOf, place}
 use Rattle.elements.specs.Segment.{ElementsOf, Elements, Segment, elementsWordsOf, elementsWords, words}
 use Rattle.elements.specs.Written.{isOther, headOf, isSaid, elementsOf, elementsLow, headWord, item-written, low-written}
 use Rattle.elements.specs.Section.{elementSection}
-use Rattle.elements.specs.declared.Mode.{Mode}
-use Rattle.elements.specs.declared.ModeRead.{ModeRead}
-use Rattle.elements.specs.declared.ModeRead.the-variants as modes
-use Rattle.elements.specs.declared.Mode.the-variants.{Active, Passive, ActiveTable, Declared}
-use Rattle.elements.proofs.Modes.{mode-long, mode-missing, mode-found, mode-within}
+use Rattle.modes.specs.declared.Mode.{Mode}
+use Rattle.modes.specs.declared.ModeRead.{ModeRead}
+use Rattle.modes.specs.declared.ModeRead.the-variants as modes
+use Rattle.modes.specs.declared.Mode.the-variants.{Active, Passive, ActiveTable, Declared}
+use Rattle.modes.proofs.Modes.{mode-long, mode-missing, mode-found, mode-within}
 
 -- ---- a segment takes eight words at least
 

@@ -13,7 +13,7 @@ use Rattle.elements.specs.Members.{funcref}
 use Rattle.elements.specs.Segment.{Segment, words}
 use Rattle.elements.specs.Item.{bytes}
 use Rattle.elements.specs.Exception.{itemOf, exception}
-use Rattle.elements.specs.declared.Mode.the-variants.{Active, Passive, ActiveTable, Declared}
+use Rattle.modes.specs.declared.Mode.the-variants.{Active, Passive, ActiveTable, Declared}
 
 abbrev externref : RefType
 externref = nullOf (Abstract false Extern)

@@ -13,12 +13,12 @@ use Rattle.types.specs.Words.{heapKind, heapShared, heapIndex, heap-kind-small,
 use Rattle.types.specs.declared.HeapType.{HeapType}
 use Rattle.types.specs.declared.HeapType.the-variants.{Abstract, Concrete, Exact}
 use Rattle.types.specs.declared.RefType.{RefType}
-use Rattle.elements.specs.Mode.{PlaceOf}
+use Rattle.modes.specs.Mode.{PlaceOf}
 use Rattle.elements.specs.Members.{MembersOf, funcref}
 use Rattle.elements.specs.Segment.{ElementsOf, Segment}
 use Rattle.elements.specs.Item.{isTyped, Item}
-use Rattle.elements.specs.declared.Mode.{Mode}
-use Rattle.elements.specs.declared.Mode.the-variants.{Active, Passive, ActiveTable, Declared}
+use Rattle.modes.specs.declared.Mode.{Mode}
+use Rattle.modes.specs.declared.Mode.the-variants.{Active, Passive, ActiveTable, Declared}
 
 -- nullable unshared func, by its word h: kind 0, bit 4 set, bit 5 not
 abbrev pub isFuncref : RefType → Bool

@@ -9,14 +9,14 @@ use Rattle.texts.specs.Text.{sliceOf}
 use Rattle.texts.specs.declared.Span.{Span}
 use Rattle.types.specs.declared.RefType.{RefType}
 use Rattle.parts.specs.Listed.{each}
-use Rattle.elements.specs.Mode.{PlaceOf, place}
+use Rattle.modes.specs.Mode.{PlaceOf, place}
 use Rattle.elements.specs.Members.{MembersOf}
 use Rattle.elements.specs.Segment.{ElementsOf, Segment}
 use Rattle.elements.specs.Item.{isTyped, Item, bytes}
 use Rattle.elements.specs.Exception.{isFuncref, activeItem, itemFrom, itemOf, recordFrom, recordOf, item-record, exception, record-item}
 use Rattle.elements.specs.Section.{resolved, located, resolve-located}
-use Rattle.elements.specs.declared.Mode.{Mode}
-use Rattle.elements.specs.declared.Mode.the-variants.{Active, Passive, ActiveTable, Declared}
+use Rattle.modes.specs.declared.Mode.{Mode}
+use Rattle.modes.specs.declared.Mode.the-variants.{Active, Passive, ActiveTable, Declared}
 
 abbrev pub filledElements : List ℕ → (e : Bool) → ElementsOf e Span → ElementsOf e (List ℕ)
 filledElements t false xs = xs

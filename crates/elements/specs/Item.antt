@@ -12,10 +12,10 @@ use Rattle.format.specs.Combine.{dep}
 use Rattle.texts.specs.Section.{Section}
 use Rattle.texts.specs.declared.Span.{Span}
 use Rattle.parts.specs.Both.{both}
-use Rattle.elements.specs.Mode.{PlaceOf, place}
+use Rattle.modes.specs.Mode.{PlaceOf, place}
 use Rattle.elements.specs.Members.{MembersOf, members}
-use Rattle.elements.specs.declared.Mode.{Mode}
-use Rattle.elements.specs.declared.Mode.the-variants.{Active, Passive, ActiveTable, Declared}
+use Rattle.modes.specs.declared.Mode.{Mode}
+use Rattle.modes.specs.declared.Mode.the-variants.{Active, Passive, ActiveTable, Declared}
 
 -- a mode, and whether expressions are listed
 abbrev pub Flag : Type 0

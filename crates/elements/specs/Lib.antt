@@ -1,5 +1,4 @@
--- Element segments: their modes, records and items over one abstract syntax, the one exception in reading, and what the element section is as a section.
-pub mod Mode
+-- Element segments: their records and items over one abstract syntax, the one exception in reading, and what the element section is as a section.
 pub mod Members
 pub mod Segment
 pub mod Item

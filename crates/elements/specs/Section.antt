@@ -12,13 +12,13 @@ use Rattle.texts.specs.Section as section
 use Rattle.texts.specs.declared.Span.{Span}
 use Rattle.types.specs.declared.RefType.{RefType}
 use Rattle.parts.specs.Both.{second-stood, at-second}
-use Rattle.elements.specs.Mode.{modeWords, mode-ok, PlaceOf}
+use Rattle.modes.specs.Mode.{modeWords, mode-ok, PlaceOf}
 use Rattle.elements.specs.Members.{MembersOf}
 use Rattle.elements.specs.Segment.{ElementsOf, Segment, words}
 use Rattle.elements.specs.Item.{code, isTyped, Item, body, bytes}
 use Rattle.elements.specs.Exception.{isFuncref, activeItem, itemFrom, itemOf, recordFrom, recordOf, item-record}
-use Rattle.elements.specs.declared.Mode.{Mode}
-use Rattle.elements.specs.declared.Mode.the-variants.{Active, Passive, ActiveTable, Declared}
+use Rattle.modes.specs.declared.Mode.{Mode}
+use Rattle.modes.specs.declared.Mode.the-variants.{Active, Passive, ActiveTable, Declared}
 
 -- ---- the record of an item can be printed where its parts can, and it prints their words
 

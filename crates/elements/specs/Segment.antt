@@ -11,8 +11,8 @@ use Rattle.texts.specs.Spans.{span}
 use Rattle.texts.specs.declared.Span.{Span}
 use Rattle.types.specs.Words.{refWords}
 use Rattle.types.specs.declared.RefType.{RefType}
-use Rattle.elements.specs.Mode.{modeWords, PlaceOf, place}
-use Rattle.elements.specs.declared.Mode.{Mode}
+use Rattle.modes.specs.Mode.{modeWords, PlaceOf, place}
+use Rattle.modes.specs.declared.Mode.{Mode}
 
 -- kind 0: the indices of functions; kind 1: a reference type and expressions
 abbrev pub ElementsOf : Bool → Type 0 → Type 0

@@ -17,14 +17,14 @@ use Rattle.types.specs.declared.RefType.{RefType}
 use Rattle.parts.specs.Text.{expression}
 use Rattle.parts.specs.Listed.{textsOf, listed}
 use Rattle.parts.specs.Writing as writing
-use Rattle.elements.specs.Mode.{PlaceOf, place}
+use Rattle.modes.specs.Mode.{PlaceOf, place}
 use Rattle.elements.specs.Members.{funcref}
 use Rattle.elements.specs.Segment.{ElementsOf, Elements}
 use Rattle.elements.specs.Item.{flagOf, body, bytes}
 use Rattle.elements.specs.Exception.{isFuncref, activeItem, itemOf}
 use Rattle.elements.specs.Section.{elementSection, resolved}
-use Rattle.elements.specs.declared.Mode.{Mode}
-use Rattle.elements.specs.declared.Mode.the-variants.{Active, Passive, ActiveTable, Declared}
+use Rattle.modes.specs.declared.Mode.{Mode}
+use Rattle.modes.specs.declared.Mode.the-variants.{Active, Passive, ActiveTable, Declared}
 
 -- active without a table, expressions, and word h of another type than nullable unshared func
 abbrev pub isOther : Mode → Bool → ℕ → Bool

@@ -4,17 +4,3 @@ mod writer;
 
 pub use reader::walk_bytes;
 pub use writer::walk_words;
-
-// Where the elements of a segment go. Active is without a table.
-pub enum Mode {
-    Active,
-    Passive,
-    ActiveTable,
-    Declared,
-}
-
-// What a mode word and a table flag are.
-pub enum ModeRead {
-    No,
-    Is(Mode),
-}

@@ -1,23 +1,23 @@
 // Writing element segments: their words at a place, and their bytes.
-use crate::Mode;
-use crate::ModeRead;
 use format::Done;
 use format::Walk;
 use format::append_byte;
 use lists::Member;
 use lists::walk_list;
+use modes::Mode;
+use modes::ModeRead;
+use modes::find_mode;
+use modes::walk_place;
 use numbers::append_u32;
 use parts::walk_expr;
 use refs::walk_ref;
 use types::RefRead;
 use types::RefType;
-use words::walk_index;
 use words::walk_unused;
 ghost use mathlib.Core.Path.{_≡_};
 ghost use mathlib.Core.Bool.{false, true};
-ghost use mathlib.Core.List.{List};
-ghost use Prim.Native.Nat.{ℕ, _≤_};
-ghost use lib.ListN.{length, drop};
+ghost use Prim.Native.Nat.{_≤_};
+ghost use lib.ListN.{length};
 ghost use Rattle.format.specs.Count.{Appends, silent};
 ghost use Rattle.format.specs.Walk.{Walks};
 ghost use Rattle.types.specs.Words.{refWords};
@@ -25,40 +25,10 @@ ghost use Rattle.parts.specs.Text.{expression};
 ghost use Rattle.parts.specs.Listed.{listed};
 ghost use Rattle.parts.specs.Writing.{Writing};
 ghost use Rattle.parts.specs.ListWalks.{MembersWritten};
-ghost use Rattle.elements.specs.Mode.{modeWords, modeRead, nowhere, place};
 ghost use Rattle.elements.specs.Segment.{elementsWordsOf, elementsWords};
 ghost use Rattle.elements.specs.Item.{flagOf};
 ghost use Rattle.elements.specs.Written.{isOther, isSaid, headOf, typeOf, functionsOf, expressionsOf, expressionsLow, elementsOf, elementsLow};
 ghost use Rattle.elements.specs.Section.{elementSection};
-ghost use Rattle.elements.specs.declared.Mode.the-variants.{Active, ActiveTable};
-
-// The mode word and the table flag, which is set only if active.
-fn find_mode(words: &[u32], at: usize) -> ModeRead
-    ensures { λ r. ⌜ r ≡ modeRead (modeWords .parse (drop at (now (words .entry)))) ⌝ }
-{
-    if words.len() <= at {
-        return ModeRead::No;
-    }
-    if words.len() - at < 2 {
-        return ModeRead::No;
-    }
-    let table = words[at + 1];
-    if words[at] == 2 {
-        return match table {
-            0 => ModeRead::Is(Mode::Active),
-            1 => ModeRead::Is(Mode::ActiveTable),
-            _ => ModeRead::No,
-        };
-    }
-    if table != 0 {
-        return ModeRead::No;
-    }
-    match words[at] {
-        0 => ModeRead::Is(Mode::Passive),
-        1 => ModeRead::Is(Mode::Declared),
-        _ => ModeRead::No,
-    }
-}
 
 // Whether expressions without a table are of another type than nullable unshared func, by its word h: only that type need not be said.
 fn is_other(m: Mode, expressions: bool, h: u32) -> bool
@@ -118,53 +88,6 @@ fn append_flag(other: bool, m: Mode, expressions: bool, out: &mut [u8], s: Done)
         return append_byte(0x00, out, t);
     }
     append_byte(flag(m, expressions), out, s)
-}
-
-// Three unused words, of which nothing is written.
-fn walk_nowhere(words: &[u32], at: usize, s: Done) -> Walk
-    ensures { λ r. ⌜ ((t out : List ℕ) → Writing nowhere t (now (words .entry)) at out s out r) ⌝ }
-{
-    if words.len() <= at {
-        return Walk::No;
-    }
-    if words[at] != 0 {
-        return Walk::No;
-    }
-    walk_unused(words, at + 1, s)
-}
-
-// An unused word, and the offset.
-fn walk_offset(words: &[u32], at: usize, text: &[u8], out: &mut [u8], s: Done) -> Walk
-    ensures { λ r. ⌜ Writing (place Active) (now (text .entry)) (now (words .entry)) at (now (out .entry)) s (now (out .exit)) r ⌝ }
-{
-    if words.len() <= at {
-        return Walk::No;
-    }
-    if words[at] != 0 {
-        return Walk::No;
-    }
-    walk_expr(words, at + 1, text, out, s)
-}
-
-// The table, and the offset.
-fn walk_table_offset(words: &[u32], at: usize, text: &[u8], out: &mut [u8], s: Done) -> Walk
-    ensures { λ r. ⌜ Writing (place ActiveTable) (now (text .entry)) (now (words .entry)) at (now (out .entry)) s (now (out .exit)) r ⌝ }
-{
-    let Walk::Got(p, t) = walk_index(words, at, out, s) else {
-        return Walk::No;
-    };
-    walk_expr(words, p, text, out, t)
-}
-
-fn walk_place(m: Mode, words: &[u32], at: usize, text: &[u8], out: &mut [u8], s: Done) -> Walk
-    ensures { λ r. ⌜ Writing (place m) (now (text .entry)) (now (words .entry)) at (now (out .entry)) s (now (out .exit)) r ⌝ }
-{
-    match m {
-        Mode::Active => walk_offset(words, at, text, out, s),
-        Mode::Passive => walk_nowhere(words, at, s),
-        Mode::ActiveTable => walk_table_offset(words, at, text, out, s),
-        Mode::Declared => walk_nowhere(words, at, s),
-    }
 }
 
 // Two unused words, 00 where the kind is said, and the list of indices.

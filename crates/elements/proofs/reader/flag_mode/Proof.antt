@@ -1,5 +1,5 @@
 -- `elements::reader::flag_mode` meets its contract: what is none of 0 to 6 is 7. Assumes nothing.
-use Rattle.elements.proofs.Modes.{last-flag}
+use Rattle.elements.proofs.Items.{last-flag}
 use borrow.Author.Needs.{needs}
 use Rattle.elements.proofs.reader.flag_mode.Statement.{statement}
 use Rattle.elements.proofs.reader.flag_mode.Tie as tie

@@ -1,5 +1,5 @@
 -- `elements::writer::walk_words` meets its contract: the mode, the flag by what stands behind the place, the place, and the elements. Assumes nothing.
-use Rattle.elements.proofs.Modes.{mode-within}
+use Rattle.modes.proofs.Modes.{mode-within}
 use Rattle.elements.proofs.Segments.{no-mode-there, segment-short, place-missing, elements-follow}
 use borrow.Author.Needs.{needs}
 use Rattle.elements.proofs.writer.walk_words.Statement.{statement}

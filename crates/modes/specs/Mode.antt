@@ -15,10 +15,10 @@ use Rattle.texts.specs.Section.{Section, textless, tagged}
 use Rattle.texts.specs.declared.Span.{Span}
 use Rattle.parts.specs.Text.{expression}
 use Rattle.parts.specs.Both.{both}
-use Rattle.elements.specs.declared.Mode.{Mode}
-use Rattle.elements.specs.declared.Mode.the-variants.{Active, Passive, ActiveTable, Declared}
-use Rattle.elements.specs.declared.ModeRead.{ModeRead}
-use Rattle.elements.specs.declared.ModeRead.the-variants as modes
+use Rattle.modes.specs.declared.Mode.{Mode}
+use Rattle.modes.specs.declared.Mode.the-variants.{Active, Passive, ActiveTable, Declared}
+use Rattle.modes.specs.declared.ModeRead.{ModeRead}
+use Rattle.modes.specs.declared.ModeRead.the-variants as modes
 
 -- ---- two words: 2 active, and the table flag; 0 passive or 1 declared, and 0
 

@@ -1,9 +1,9 @@
--- `elements::writer::walk_place` meets its contract: each mode by its own walk. Assumes nothing.
-use Rattle.elements.specs.declared.Mode.the-variants.{Active, ActiveTable}
-use Rattle.elements.proofs.Places.{writes-in, passive-writes, declared-writes}
+-- `modes::writer::walk_place` meets its contract: each mode by its own walk. Assumes nothing.
+use Rattle.modes.specs.declared.Mode.the-variants.{Active, ActiveTable}
+use Rattle.modes.proofs.Places.{writes-in, passive-writes, declared-writes}
 use borrow.Author.Needs.{needs}
-use Rattle.elements.proofs.writer.walk_place.Statement.{statement}
-use Rattle.elements.proofs.writer.walk_place.Tie as tie
+use Rattle.modes.proofs.writer.walk_place.Statement.{statement}
+use Rattle.modes.proofs.writer.walk_place.Tie as tie
 
 pub walk-place-spec : {M : Type 1} → statement M
 walk-place-spec =

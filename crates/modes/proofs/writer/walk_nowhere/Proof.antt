@@ -1,9 +1,9 @@
--- `elements::writer::walk_nowhere` meets its contract: an unused word, and two. Assumes nothing.
+-- `modes::writer::walk_nowhere` meets its contract: an unused word, and two. Assumes nothing.
 use Rattle.format.specs.Walk.{nothing-left}
-use Rattle.elements.proofs.Places.{nowhere-not, nowhere-writes}
+use Rattle.modes.proofs.Places.{nowhere-not, nowhere-writes}
 use borrow.Author.Needs.{needs}
-use Rattle.elements.proofs.writer.walk_nowhere.Statement.{statement}
-use Rattle.elements.proofs.writer.walk_nowhere.Tie as tie
+use Rattle.modes.proofs.writer.walk_nowhere.Statement.{statement}
+use Rattle.modes.proofs.writer.walk_nowhere.Tie as tie
 
 pub walk-nowhere-spec : {M : Type 1} → statement M
 walk-nowhere-spec =

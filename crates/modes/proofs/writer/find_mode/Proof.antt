@@ -1,8 +1,8 @@
--- `elements::writer::find_mode` meets its contract: by the two words. Assumes nothing.
-use Rattle.elements.proofs.Modes.{mode-end, mode-short, mode-active, mode-table, mode-passive, mode-declared, no-table-flag, table-flag-set, no-mode-word}
+-- `modes::writer::find_mode` meets its contract: by the two words. Assumes nothing.
+use Rattle.modes.proofs.Modes.{mode-end, mode-short, mode-active, mode-table, mode-passive, mode-declared, no-table-flag, table-flag-set, no-mode-word}
 use borrow.Author.Needs.{needs}
-use Rattle.elements.proofs.writer.find_mode.Statement.{statement}
-use Rattle.elements.proofs.writer.find_mode.Tie as tie
+use Rattle.modes.proofs.writer.find_mode.Statement.{statement}
+use Rattle.modes.proofs.writer.find_mode.Tie as tie
 
 pub find-mode-spec : {M : Type 1} → statement M
 find-mode-spec =

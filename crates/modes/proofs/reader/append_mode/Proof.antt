@@ -1,9 +1,9 @@
--- `elements::reader::append_mode` meets its contract. Assumes nothing.
-use Rattle.elements.specs.declared.Mode.the-variants.{Active, Passive, ActiveTable, Declared}
-use Rattle.elements.proofs.Places.{mode-added}
+-- `modes::reader::append_mode` meets its contract. Assumes nothing.
+use Rattle.modes.specs.declared.Mode.the-variants.{Active, Passive, ActiveTable, Declared}
+use Rattle.modes.proofs.Places.{mode-added}
 use borrow.Author.Needs.{needs}
-use Rattle.elements.proofs.reader.append_mode.Statement.{statement}
-use Rattle.elements.proofs.reader.append_mode.Tie as tie
+use Rattle.modes.proofs.reader.append_mode.Statement.{statement}
+use Rattle.modes.proofs.reader.append_mode.Tie as tie
 
 pub append-mode-spec : {M : Type 1} → statement M
 append-mode-spec =

@@ -1,9 +1,9 @@
--- `elements::reader::read_place` meets its contract: each mode by its own walk. Assumes nothing.
-use Rattle.elements.specs.declared.Mode.the-variants.{ActiveTable}
-use Rattle.elements.proofs.Places.{active-reads, passive-reads, reads-in, declared-reads}
+-- `modes::reader::read_place` meets its contract: each mode by its own walk. Assumes nothing.
+use Rattle.modes.specs.declared.Mode.the-variants.{ActiveTable}
+use Rattle.modes.proofs.Places.{active-reads, passive-reads, reads-in, declared-reads}
 use borrow.Author.Needs.{needs}
-use Rattle.elements.proofs.reader.read_place.Statement.{statement}
-use Rattle.elements.proofs.reader.read_place.Tie as tie
+use Rattle.modes.proofs.reader.read_place.Statement.{statement}
+use Rattle.modes.proofs.reader.read_place.Tie as tie
 
 pub read-place-spec : {M : Type 1} → statement M
 read-place-spec =

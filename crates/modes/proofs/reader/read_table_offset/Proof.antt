@@ -1,8 +1,8 @@
--- `elements::reader::read_table_offset` meets its contract: the table, and the offset. Assumes nothing.
-use Rattle.elements.proofs.Places.{table-not-read, table-offset-reads}
+-- `modes::reader::read_table_offset` meets its contract: the table, and the offset. Assumes nothing.
+use Rattle.modes.proofs.Places.{table-not-read, table-offset-reads}
 use borrow.Author.Needs.{needs}
-use Rattle.elements.proofs.reader.read_table_offset.Statement.{statement}
-use Rattle.elements.proofs.reader.read_table_offset.Tie as tie
+use Rattle.modes.proofs.reader.read_table_offset.Statement.{statement}
+use Rattle.modes.proofs.reader.read_table_offset.Tie as tie
 
 pub read-table-offset-spec : {M : Type 1} → statement M
 read-table-offset-spec =

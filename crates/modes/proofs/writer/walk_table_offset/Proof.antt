@@ -1,8 +1,8 @@
--- `elements::writer::walk_table_offset` meets its contract: the table, and the offset. Assumes nothing.
-use Rattle.elements.proofs.Places.{table-not-there, table-offset-writes}
+-- `modes::writer::walk_table_offset` meets its contract: the table, and the offset. Assumes nothing.
+use Rattle.modes.proofs.Places.{table-not-there, table-offset-writes}
 use borrow.Author.Needs.{needs}
-use Rattle.elements.proofs.writer.walk_table_offset.Statement.{statement}
-use Rattle.elements.proofs.writer.walk_table_offset.Tie as tie
+use Rattle.modes.proofs.writer.walk_table_offset.Statement.{statement}
+use Rattle.modes.proofs.writer.walk_table_offset.Tie as tie
 
 pub walk-table-offset-spec : {M : Type 1} → statement M
 walk-table-offset-spec =

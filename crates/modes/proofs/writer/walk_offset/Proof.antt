@@ -1,9 +1,9 @@
--- `elements::writer::walk_offset` meets its contract: an unused word, and the offset. Assumes nothing.
+-- `modes::writer::walk_offset` meets its contract: an unused word, and the offset. Assumes nothing.
 use Rattle.format.specs.Walk.{nothing-left}
-use Rattle.elements.proofs.Places.{offset-not, offset-writes}
+use Rattle.modes.proofs.Places.{offset-not, offset-writes}
 use borrow.Author.Needs.{needs}
-use Rattle.elements.proofs.writer.walk_offset.Statement.{statement}
-use Rattle.elements.proofs.writer.walk_offset.Tie as tie
+use Rattle.modes.proofs.writer.walk_offset.Statement.{statement}
+use Rattle.modes.proofs.writer.walk_offset.Tie as tie
 
 pub walk-offset-spec : {M : Type 1} → statement M
 walk-offset-spec =

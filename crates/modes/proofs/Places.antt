@@ -17,10 +17,10 @@ use Rattle.parts.specs.Reading as reading
 use Rattle.parts.specs.Reading.{Reading, words-before}
 use Rattle.parts.specs.Writing as writing
 use Rattle.parts.specs.Writing.{Writing}
-use Rattle.elements.specs.Mode.{modeWords, nowhere, tableIndex, place}
-use Rattle.elements.specs.declared.Mode.{Mode}
-use Rattle.elements.specs.declared.Mode.the-variants.{Active, Passive, ActiveTable, Declared}
-use Rattle.elements.proofs.Tags.{tag-not, tag-walks}
+use Rattle.modes.specs.Mode.{modeWords, nowhere, tableIndex, place}
+use Rattle.modes.specs.declared.Mode.{Mode}
+use Rattle.modes.specs.declared.Mode.the-variants.{Active, Passive, ActiveTable, Declared}
+use Rattle.modes.proofs.Tags.{tag-not, tag-walks}
 
 -- ---- the words of a mode
 

@@ -1,19 +1,17 @@
--- The mode at a place, and what depends on a mode that is known. Assumes nothing.
+-- The mode at a place. Assumes nothing.
 use mathlib.Core.Path.{_≡_, refl, sym, ap, _∙_}
 use mathlib.Core.List.{List, [], _∷_, _++_}
-use Prim.Native.Nat.{ℕ, suc, _+_, _-_, _<_, _≤_}
+use Prim.Native.Nat.{ℕ, _+_, _-_, _<_, _≤_}
 use native.Mathlib.Omega.{arith}
-use lib.Dec.{leb}
 use lib.ListN.{length, getD, drop}
 use Rattle.format.specs.Parsed.{Parsed, fail, got}
 use Rattle.format.specs.Format.{refuses}
 use Rattle.format.specs.Read.{drop-two, read-on, begins, too-few}
-use Rattle.elements.specs.Mode.{modeWords, mode-ok, modeRead}
-use Rattle.elements.specs.Item.{flagOf}
-use Rattle.elements.specs.declared.Mode.{Mode}
-use Rattle.elements.specs.declared.ModeRead.{ModeRead}
-use Rattle.elements.specs.declared.ModeRead.the-variants as modes
-use Rattle.elements.specs.declared.Mode.the-variants.{Active, Passive, ActiveTable, Declared}
+use Rattle.modes.specs.Mode.{modeWords, mode-ok, modeRead}
+use Rattle.modes.specs.declared.Mode.{Mode}
+use Rattle.modes.specs.declared.ModeRead.{ModeRead}
+use Rattle.modes.specs.declared.ModeRead.the-variants as modes
+use Rattle.modes.specs.declared.Mode.the-variants.{Active, Passive, ActiveTable, Declared}
 
 -- a mode takes two words
 pub mode-long : (m : Mode) → length (modeWords .print m) ≡ 2
@@ -110,14 +108,3 @@ module _ (w : List ℕ) (at : ℕ) {found : ModeRead} (d : found ≡ modeRead (m
 
     pub mode-within : at ≤ length w
     mode-within = omega (arith, mode-is w at m (sym d ∙ e) .1)
-
--- ---- a flag that is none of 0 to 6 is 7
-
-past : (n f : ℕ) → n ≤ f → (f ≡ n → ⊥) → suc n ≤ f
-past n f h k = omega arith
-
-pub last-flag : (f : ℕ) → f ≤ 7 → (f ≡ 0 → ⊥) → (f ≡ 1 → ⊥) → (f ≡ 2 → ⊥) → (f ≡ 3 → ⊥) → (f ≡ 4 → ⊥) → (f ≡ 5 → ⊥) → (f ≡ 6 → ⊥) → flagOf Declared (leb 4 f) ≡ f
-last-flag f k a b c d e g i =
-    let h : 7 ≤ f = past 6 f (past 5 f (past 4 f (past 3 f (past 2 f (past 1 f (past 0 f (omega arith) a) b) c) d) e) g) i in
-    let z : f ≡ 7 = omega arith in
-    rw z
