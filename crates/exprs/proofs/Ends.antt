@@ -39,8 +39,8 @@ module _ (s : List ℕ) {k n i : ℕ} where
     pub heap-passed : t ≡ true → Passed k n s i (At (i + 1))
     heap-passed y = record { to = (omega arith, at-go s k n i h k 0 (heap ∙ rw y) ∙ ap (plus (i + 1)) (no-kind k (drop (i + 1) s))) }
 
-    pub no-heap : t ≡ false → Passed k n s i Nothing
-    no-heap y = record { to = at-bad s k n i h (heap ∙ rw y) }
+    pub heap-wrong : t ≡ false → Passed k n s i Nothing
+    heap-wrong y = record { to = at-bad s k n i h (heap ∙ rw y) }
 
 -- ---- instructions
 

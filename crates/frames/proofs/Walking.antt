@@ -121,11 +121,11 @@ module _ {s counts totals : List ℕ} {at : ℕ} (t : Tallied s counts totals at
     few : getD counts i 0 + getD totals i 0 ≤ at
     few = tally-few i (id-below q s at e)
 
-    pub count-fits : Fits w64 (getD counts i 0 + 1)
-    count-fits = record { fits = omega (arith, few, frame-begins q s at e .long, frame-begins q s at e .within) }
+    pub count-grows : Fits w64 (getD counts i 0 + 1)
+    count-grows = record { fits = omega (arith, few, frame-begins q s at e .long, frame-begins q s at e .within) }
 
-    pub total-fits : Fits w64 (getD totals i 0 + (end - at - 5))
-    total-fits = record { fits = omega (arith, few, frame-begins q s at e .long, frame-begins q s at e .within) }
+    pub total-grows : Fits w64 (getD totals i 0 + (end - at - 5))
+    total-grows = record { fits = omega (arith, few, frame-begins q s at e .long, frame-begins q s at e .within) }
 
   grows : at < length s → {i end : ℕ} → Begins s at i end
       → Tallied s (set counts i (getD counts i 0 + 1)) (set totals i (getD totals i 0 + (end - at - 5))) end

@@ -22,11 +22,11 @@ abbrev pub fresh : State
 fresh = record { used = 0 }
 
 -- room used grows by the item's length plus 5
-abbrev pub grownBy : State → ℕ → State
-grownBy state n = record { used = state .used + n + 5 }
+abbrev pub grownFor : State → ℕ → State
+grownFor state n = record { used = state .used + n + 5 }
 
 abbrev pub grown : State → Frame → State
-grown state f = grownBy state (length (f .item))
+grown state f = grownFor state (length (f .item))
 
 -- ---- the state that frames give
 

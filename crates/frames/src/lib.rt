@@ -7,7 +7,7 @@ ghost use Rattle.format.specs.Write.{Writes};
 ghost use Rattle.format.specs.Runs.{run};
 ghost use Rattle.frames.specs.Frames.{valueOf, frame, itemMost};
 ghost use Rattle.frames.specs.Ids.{idOf, sections, among};
-ghost use Rattle.frames.specs.Builder.{fresh, grownBy, storeMost, isOver, isFull, Within};
+ghost use Rattle.frames.specs.Builder.{fresh, grownFor, storeMost, isOver, isFull, Within};
 ghost use Rattle.frames.specs.Place.{frameAt};
 ghost use Rattle.frames.specs.Tally.{tallyOf};
 ghost use Rattle.frames.specs.Append.{headBytes};
@@ -32,7 +32,7 @@ impl State {
     // The state with the frame of an item of n bytes, in a store.
     pub fn grown(self, n: usize) -> Self
         requires { ⌜ self .used + n + 5 ≤ storeMost ⌝ }
-        ensures { λ r. ⌜ r ≡ grownBy self n ⌝ }
+        ensures { λ r. ⌜ r ≡ grownFor self n ⌝ }
     {
         Self {
             used: self.used + n + 5,

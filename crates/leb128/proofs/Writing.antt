@@ -112,7 +112,7 @@ module _ {s : Bool} {a w n : ℕ} (c : Counted s a w n) where
 -- ---- what is written
 
 -- of the number a, w is left to write, from place i on: what the buffer will be stays what it is to be
-pub record Put (s neg : Bool) (a : ℕ) (xs : List ℕ) (w i : ℕ) (ys : List ℕ) : Type 0 where
+pub record PutTo (s neg : Bool) (a : ℕ) (xs : List ℕ) (w i : ℕ) (ys : List ℕ) : Type 0 where
   pub will : todo i (leb s (bySign neg w)) ys ≡ over (leb s (bySign neg a)) xs
   pub count : i + length (leb s (bySign neg w)) ≡ length (leb s (bySign neg a))
   pub room : length (leb s (bySign neg a)) ≤ length xs
@@ -124,18 +124,18 @@ module _ (s neg : Bool) (a : ℕ) (xs : List ℕ) {t : Bool} (e : t ≡ le (leng
   pub put-short : not t ≡ true → Writes (leb s (bySign neg a)) xs xs Short
   put-short n = let h = leb-false (length (leb s (pos a))) (length xs) (sym e ∙ not-true t n) in writes-not (omega (arith, length-sign s neg a))
 
-  pub put-starts : not t ≡ false → Put s neg a xs a 0 xs
+  pub put-starts : not t ≡ false → PutTo s neg a xs a 0 xs
   put-starts y =
       let h = leb-true (length (leb s (pos a))) (length xs) (sym e ∙ not-false t y) in
       let n = length-sign s neg a in
       record { will = todo-start (leb s (bySign neg a)) xs; count = omega arith; room = omega arith; kept = refl; inside = omega (arith, leb-some s (pos a)) }
 
-module _ {s neg : Bool} {a : ℕ} {xs : List ℕ} {w i : ℕ} {ys : List ℕ} (p : Put s neg a xs w i ys) where
+module _ {s neg : Bool} {a : ℕ} {xs : List ℕ} {w i : ℕ} {ys : List ℕ} (p : PutTo s neg a xs w i ys) where
   pub put-kept : (b : ℕ) → length (set ys i b) ≡ length xs
   put-kept b = simp length-set (p .kept)
 
   module _ {l : ℕ} (is : l ≡ limit s) {f : ℕ} (turn : f ≡ onesOf neg 7) where
-    pub put-goes-on : l ≤ w → Put s neg a xs (w / 128) (i + 1) (set ys i (bitOr (bitXor (bitAnd w 127) f) 128))
+    pub put-goes-on : l ≤ w → PutTo s neg a xs (w / 128) (i + 1) (set ys i (bitOr (bitXor (bitAnd w 127) f) 128))
     put-goes-on h =
         let step = leb-step s neg w turn (omega arith) in
         let n = ap length step in

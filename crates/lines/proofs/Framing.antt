@@ -120,8 +120,8 @@ module _ (s : List ℕ) (h : 2 ≤ length s) (bytes : (i : ℕ) → Fits w8 (get
         pub text-fits : length s ≤ 4096 → Fits w64 (2 + j * countIn s)
         text-fits l = let k = text-within in record { fits = omega arith }
 
-      pub frame-found : some (adds (take (countIn s - 0) (drop 0 ys)) (midOf (2 + 4 * countIn s) (length s - (2 + 4 * countIn s)) s)) ≡ whole adds (wordList .parse s)
-      frame-found =
+      pub frame-told : some (adds (take (countIn s - 0) (drop 0 ys)) (midOf (2 + 4 * countIn s) (length s - (2 + 4 * countIn s)) s)) ≡ whole adds (wordList .parse s)
+      frame-told =
           let z : countIn s - 0 ≡ countIn s = omega arith in
           let w : take (countIn s - 0) (drop 0 ys) ≡ found .words = rw z (found .listed) in
           (λ i. some (adds (w i) (rest-lent (2 + 4 * countIn s) s i))) ∙ sym (ap (whole adds) (found .is))

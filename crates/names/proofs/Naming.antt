@@ -14,8 +14,8 @@ use Rattle.format.specs.Read.{rest-at, drop-end}
 use Rattle.format.specs.Runs.{run, run-more, run-stop, run-none}
 use Rattle.names.specs.Utf8.{utf8}
 use Rattle.names.specs.Char.{char, char-some, wide}
-use Rattle.names.specs.Name.{isName, found, Passed}
-use Rattle.names.specs.Place.{endOf, EndsAt, Begins}
+use Rattle.names.specs.Name.{isName, found, NamedTo}
+use Rattle.names.specs.Place.{endOf, EndsAt, Leading}
 use Rattle.names.specs.Plain.{plain-name}
 use Rattle.plain.specs.Plain.{Plain, IsPlain, Bits}
 use Rattle.names.proofs.Reading.{plain, is-wide}
@@ -27,10 +27,10 @@ taken s at c r e =
     let l : length (drop at s) ≡ length (utf8 c) + length r = ap length (o .1) ∙ length-append (utf8 c) r in
     omega (arith, char-some c (o .0), length-drop at s)
 
-pub passed-none : {s : List ℕ} {from : ℕ} → from ≤ length s → Passed s from from
+pub passed-none : {s : List ℕ} {from : ℕ} → from ≤ length s → NamedTo s from from
 passed-none h = record { after = omega arith; within = h; same = refl }
 
-passed-then : {s : List ℕ} {from at end : ℕ} → Passed s from at → Passed s at end → Passed s from end
+passed-then : {s : List ℕ} {from at end : ℕ} → NamedTo s from at → NamedTo s at end → NamedTo s from end
 passed-then n m = record { after = omega (arith, n .after, m .after); within = m .within; same = n .same ∙ m .same }
 
 -- a character is passed
@@ -64,10 +64,10 @@ module _ {s : List ℕ} {at : ℕ} (h : at < length s) (k : 0x7F < getD s at 0) 
       go fail p = refl
       go (got c r) p = absurd (omega (arith, taken s at c r p, at-char (got c r) p))
 
-  char-passed : (end ≡ 0 → ⊥) → (at < end) × Passed s at end
+  char-passed : (end ≡ 0 → ⊥) → (at < end) × NamedTo s at end
   char-passed z = go (char .parse (drop at s)) refl
     where
-      go : (m : Parsed ℕ) → char .parse (drop at s) ≡ m → (at < end) × Passed s at end
+      go : (m : Parsed ℕ) → char .parse (drop at s) ≡ m → (at < end) × NamedTo s at end
       go fail p = absurd (z (at-char fail p))
       go (got c r) p =
           let q = at-char (got c r) p in
@@ -78,30 +78,30 @@ module _ {s : List ℕ} {at : ℕ} (h : at < length s) (k : 0x7F < getD s at 0) 
   pub less-left : (end ≡ 0 → ⊥) → length s - end < length s - at
   less-left z = omega (arith, char-passed z .0)
 
-  pub wide-passed : {from : ℕ} → Passed s from at → (end ≡ 0 → ⊥) → Passed s from end
+  pub wide-passed : {from : ℕ} → NamedTo s from at → (end ≡ 0 → ⊥) → NamedTo s from end
   wide-passed n z = passed-then n (char-passed z .1)
 
-  pub none-passed : Passed s 0 at → end ≡ 0 → false ≡ isName s
+  pub none-passed : NamedTo s 0 at → end ≡ 0 → false ≡ isName s
   unfolding isName
   none-passed n z = sym (n .same ∙ ap found (run-stop char char-some (drop at s) (omega (arith, length-drop at s)) (none-there z)))
 
-module _ {s : List ℕ} {from at : ℕ} (n : Passed s from at) where
-  pub eight-passed : 8 ≤ length s - at → {b : ℕ} → Bits s at (at + 8) b → b ≤ 0x7F → Passed s from (at + 8)
+module _ {s : List ℕ} {from at : ℕ} (n : NamedTo s from at) where
+  pub eight-passed : 8 ≤ length s - at → {b : ℕ} → Bits s at (at + 8) b → b ≤ 0x7F → NamedTo s from (at + 8)
   eight-passed h p k = passed-then n (record { after = omega arith; within = omega arith; same = pass-plains s at 8 (omega arith) (p .told (omega arith)) })
 
   module _ (h : at < length s) (k : getD s at 0 ≤ 0x7F) where
-    pub plain-passed : Passed s from (at + 1)
+    pub plain-passed : NamedTo s from (at + 1)
     plain-passed = passed-then n (record { after = omega arith; within = omega arith; same = pass-plain s at (at + 1) refl h (omega arith) })
 
-    pub plains-passed : {end : ℕ} → Passed s (at + 1) end → Passed s from end
+    pub plains-passed : {end : ℕ} → NamedTo s (at + 1) end → NamedTo s from end
     plains-passed m = passed-then plain-passed m
 
-pub all-passed : {s : List ℕ} {at : ℕ} → Passed s 0 at → length s ≤ at → true ≡ isName s
+pub all-passed : {s : List ℕ} {at : ℕ} → NamedTo s 0 at → length s ≤ at → true ≡ isName s
 unfolding isName
 all-passed {s} {at} n h = sym (n .same ∙ ap (λ (r : List ℕ). found (run char r)) (drop-end s at h) ∙ ap found (run-none char char-some))
 
 -- a byte that is not plain begins a wide one
-pub wide-begins : {s : List ℕ} {at : ℕ} → at < length s → ((j : ℕ) → Fits w8 (getD s j 0)) → 0x7F < getD s at 0 → Begins s at (getD s at 0) 0x80 0x100
+pub wide-begins : {s : List ℕ} {at : ℕ} → at < length s → ((j : ℕ) → Fits w8 (getD s j 0)) → 0x7F < getD s at 0 → Leading s at (getD s at 0) 0x80 0x100
 wide-begins {at = at} h each k = record { within = h; is = refl; from = k; below = omega (arith, each at) }
 
 -- eight more do not leave the slice

@@ -19,7 +19,7 @@ use Rattle.format.specs.Read.{drop-more, drop-end, place-at}
 use Rattle.plain.proofs.Blocks.{or-left, or-right}
 use Rattle.names.specs.Utf8.{surrogate}
 use Rattle.names.specs.Char.{from, more, below, one, two, three, four, long, wide, char, apart-any, apart-wide, apart-long, twoValue, threeValue, fourValue}
-use Rattle.names.specs.Place.{endOf, EndsAt, Begins, between, TellsMore, lowest, past, isSecond}
+use Rattle.names.specs.Place.{endOf, EndsAt, Leading, between, TellsMore, lowest, past, isSecond}
 
 abbrev isMore : ℕ → Bool
 isMore b = between 0x80 0xC0 b
@@ -153,7 +153,7 @@ module _ (s : List ℕ) (at : ℕ) where
 
   -- ---- two bytes
 
-  module _ {b : ℕ} (B : Begins s at b 0x80 0xE0) where
+  module _ {b : ℕ} (B : Leading s at b 0x80 0xE0) where
     -- x is read behind it, and r says whether that is a second byte
     module _ (k : 0xC2 ≤ b) {x : ℕ} (p : x ≡ c) {r : Bool} (q : r ≡ isMore x) where
       pub two-yes : r ≡ true → EndsAt two s at (at + 2)
@@ -180,7 +180,7 @@ module _ (s : List ℕ) (at : ℕ) where
 
   -- ---- three bytes
 
-  module _ {b : ℕ} (B : Begins s at b 0xE0 0xF0) where
+  module _ {b : ℕ} (B : Leading s at b 0xE0 0xF0) where
     abbrev v3 : ℕ
     v3 = threeValue (b - 0xE0, (c - 0x80, d - 0x80))
 
@@ -258,7 +258,7 @@ module _ (s : List ℕ) (at : ℕ) where
 
   -- ---- four bytes
 
-  module _ {b : ℕ} (B : Begins s at b 0xF0 0x100) where
+  module _ {b : ℕ} (B : Leading s at b 0xF0 0x100) where
     abbrev v4 : ℕ
     v4 = fourValue (b - 0xF0, (c - 0x80, (d - 0x80, e - 0x80)))
 
@@ -370,7 +370,7 @@ module _ (s : List ℕ) (at : ℕ) (h : at < length s) where
   is-four k = is-long (omega arith) ∙ rw (drop-more s at h) (union-second (below 0xF0) (below 0x10000) three four apart-long (getD s at 0) (drop (at + 1) s) (le-ltb (getD s at 0) 0xF0 k))
 
 -- by where it ends, r
-module _ {s : List ℕ} {at b r : ℕ} (B : Begins s at b 0x80 0x100) where
+module _ {s : List ℕ} {at b r : ℕ} (B : Leading s at b 0x80 0x100) where
   pub two-wide : b < 0xE0 → EndsAt two s at r → EndsAt wide s at r
   two-wide k e = record { is = e .is ∙ ap (endOf s) (sym (is-two s at (B .within) (omega arith))) }
 

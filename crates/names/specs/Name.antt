@@ -38,7 +38,7 @@ abbrev pub name : Format (List ℕ)
 name = guard (sized u32) isName
 
 -- what is between two places of s is characters, one after the other
-pub record Passed (s : List ℕ) (from at : ℕ) : Type 0 where
+pub record NamedTo (s : List ℕ) (from at : ℕ) : Type 0 where
   pub after : from ≤ at
   pub within : at ≤ length s
   pub same : isName (drop from s) ≡ isName (drop at s)

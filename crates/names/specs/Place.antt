@@ -19,7 +19,7 @@ pub record EndsAt (F : Format ℕ) (s : List ℕ) (at r : ℕ) : Type 0 where
   pub is : r ≡ endOf s (F .parse (drop at s))
 
 -- a character begins at a place of s with the byte b, which is from lo on and below hi
-pub record Begins (s : List ℕ) (at b lo hi : ℕ) : Type 0 where
+pub record Leading (s : List ℕ) (at b lo hi : ℕ) : Type 0 where
   pub within : at < length s
   pub is : getD s at 0 ≡ b
   pub from : lo ≤ b

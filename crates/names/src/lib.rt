@@ -5,8 +5,8 @@ ghost use mathlib.Core.Path.{_≡_};
 ghost use Prim.Native.Nat.{_≤_};
 ghost use lib.ListN.{length, getD};
 ghost use Rattle.names.specs.Char.{two, three, four, wide};
-ghost use Rattle.names.specs.Name.{isName, Passed};
-ghost use Rattle.names.specs.Place.{EndsAt, Begins, between, TellsMore, isSecond};
+ghost use Rattle.names.specs.Name.{isName, NamedTo};
+ghost use Rattle.names.specs.Place.{EndsAt, Leading, between, TellsMore, isSecond};
 
 // A byte; past the end 0, which is no second byte of any character.
 fn byte(s: &[u8], i: usize) -> u8
@@ -59,7 +59,7 @@ fn is_second(b: u8, c: u8) -> bool
 
 // Where a character of two, three or four bytes ends that begins at a place, with byte b; 0 where none does.
 fn two_end(s: &[u8], at: usize, b: u8) -> usize
-    requires { ⌜ Begins (now s) at b 0x80 0xE0 ⌝ }
+    requires { ⌜ Leading (now s) at b 0x80 0xE0 ⌝ }
     ensures { λ r. ⌜ EndsAt two (now (s .entry)) at r ⌝ }
 {
     if b < 0xC2 {
@@ -72,7 +72,7 @@ fn two_end(s: &[u8], at: usize, b: u8) -> usize
 }
 
 fn three_end(s: &[u8], at: usize, b: u8) -> usize
-    requires { ⌜ Begins (now s) at b 0xE0 0xF0 ⌝ }
+    requires { ⌜ Leading (now s) at b 0xE0 0xF0 ⌝ }
     ensures { λ r. ⌜ EndsAt three (now (s .entry)) at r ⌝ }
 {
     if s.len() - at < 3 {
@@ -89,7 +89,7 @@ fn three_end(s: &[u8], at: usize, b: u8) -> usize
 }
 
 fn four_end(s: &[u8], at: usize, b: u8) -> usize
-    requires { ⌜ Begins (now s) at b 0xF0 0x100 ⌝ }
+    requires { ⌜ Leading (now s) at b 0xF0 0x100 ⌝ }
     ensures { λ r. ⌜ EndsAt four (now (s .entry)) at r ⌝ }
 {
     if 0xF4 < b {
@@ -109,7 +109,7 @@ fn four_end(s: &[u8], at: usize, b: u8) -> usize
 }
 
 fn wide_end(s: &[u8], at: usize, b: u8) -> usize
-    requires { ⌜ Begins (now s) at b 0x80 0x100 ⌝ }
+    requires { ⌜ Leading (now s) at b 0x80 0x100 ⌝ }
     ensures { λ r. ⌜ EndsAt wide (now (s .entry)) at r ⌝ }
 {
     if b < 0xE0 {
@@ -124,7 +124,7 @@ fn wide_end(s: &[u8], at: usize, b: u8) -> usize
 // The place behind plain bytes, eight at a time.
 fn eights_end(s: &[u8], at: usize) -> usize
     requires { ⌜ at ≤ length (now s) ⌝ }
-    ensures { λ r. ⌜ Passed (now (s .entry)) at r ⌝ }
+    ensures { λ r. ⌜ NamedTo (now (s .entry)) at r ⌝ }
 {
     let mut i = at;
     while 8 <= s.len() - i {

@@ -12,7 +12,7 @@ use lib.Dec.{ltb}
 use lib.ListN.{length, getD}
 use borrow.Author.Tests.{ltb-true, lt-ltb}
 use Rattle.format.specs.Write.{fits-or}
-use Rattle.plain.specs.Plain.{Plain, IsPlain, Bits, Tells}
+use Rattle.plain.specs.Plain.{Plain, IsPlain, Bits, TellsPlain}
 
 pub or-left : (a b : ℕ) → a ≤ bitOr a b
 or-left a b = omega (arith, or-add-and a b, and-le-r a b)
@@ -73,7 +73,7 @@ module _ {s : List ℕ} {i : ℕ} (p : PlainTo s i) (n : ℕ) (h : n ≤ length 
     pub block-passed : b ≤ 0x7F → PlainTo s (i + n)
     block-passed l = record { within = omega (arith, p .within); all = λ k u o. ⊎-elim (λ (v : i ≤ k). f .told (omega arith) k v o) (λ (v : k < i). p .all k u v) (fits-or i k) }
 
-    pub block-not : 0x7F < b → Tells s false
+    pub block-not : 0x7F < b → TellsPlain s false
     block-not l = record { is = (λ e. absurd (true≢false (sym e)), λ q. absurd (omega (arith, f .back (λ k m o. q k (omega arith) (omega (arith, p .within)))))) }
 
 -- one more
@@ -81,15 +81,15 @@ module _ {s : List ℕ} {i : ℕ} (p : PlainTo s i) (h : i < length s) where
   pub byte-passed : getD s i 0 ≤ 0x7F → PlainTo s (i + 1)
   byte-passed l = block-passed p 1 (omega arith) (bits-one s i (i + 1) refl) l
 
-  pub byte-not : 0x7F < getD s i 0 → Tells s false
+  pub byte-not : 0x7F < getD s i 0 → TellsPlain s false
   byte-not l = block-not p 1 (omega arith) (bits-one s i (i + 1) refl) l
 
 -- to the end, or to where the last n begin
 module _ {s : List ℕ} {i : ℕ} (p : PlainTo s i) where
-  pub all-passed : length s ≤ i → Tells s true
+  pub all-passed : length s ≤ i → TellsPlain s true
   all-passed h = record { is = (λ e k m o. p .all k m (omega arith), λ q. refl) }
 
-  pub last-block : (n : ℕ) → length s - i < n → n ≤ length s → {b : ℕ} → Bits s (length s - n) (length s - n + n) b → Tells s (ltb b 0x80)
+  pub last-block : (n : ℕ) → length s - i < n → n ≤ length s → {b : ℕ} → Bits s (length s - n) (length s - n + n) b → TellsPlain s (ltb b 0x80)
   last-block n h l {b} f =
       let e : length s - n + n ≡ length s = omega arith in
       record {

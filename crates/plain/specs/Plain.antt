@@ -21,5 +21,5 @@ pub record Bits (s : List ℕ) (i j b : ℕ) : Type 0 where
   pub back : Plain s i j → b < 0x80
 
 -- r tells whether all are
-pub record Tells (s : List ℕ) (r : Bool) : Type 0 where
+pub record TellsPlain (s : List ℕ) (r : Bool) : Type 0 where
   pub is : (r ≡ true) ↔ IsPlain s

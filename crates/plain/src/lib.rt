@@ -4,7 +4,7 @@ ghost use mathlib.Core.Logic.{_↔_};
 ghost use mathlib.Core.Bool.{true};
 ghost use Prim.Native.Nat.{_+_, _≤_, _<_};
 ghost use lib.ListN.{length};
-ghost use Rattle.plain.specs.Plain.{IsPlain, Bits, Tells};
+ghost use Rattle.plain.specs.Plain.{IsPlain, Bits, TellsPlain};
 
 // All bits of 4, 8, 16, 32 bytes from a place on.
 fn four_of(s: &[u8], i: usize) -> u8
@@ -51,7 +51,7 @@ fn ends_of(s: &[u8]) -> u8
 }
 
 fn is_few_plain(s: &[u8]) -> bool
-    ensures { λ r. ⌜ Tells (now (s .entry)) r ⌝ }
+    ensures { λ r. ⌜ TellsPlain (now (s .entry)) r ⌝ }
 {
     let mut i: usize = 0;
     while i < s.len() {
@@ -66,7 +66,7 @@ fn is_few_plain(s: &[u8]) -> bool
 // Block by block, and the last bytes together with some of the block before them.
 fn is_long_plain(s: &[u8]) -> bool
     requires { ⌜ 32 ≤ length (now s) ⌝ }
-    ensures { λ r. ⌜ Tells (now (s .entry)) r ⌝ }
+    ensures { λ r. ⌜ TellsPlain (now (s .entry)) r ⌝ }
 {
     let mut i: usize = 0;
     while 32 <= s.len() - i {

@@ -11,7 +11,7 @@ use borrow.Rule.Slice.PartMut.{putMid, midOf, same-len-mid}
 use Rattle.format.specs.Write.{Writes, writes, todo-two, rest-lent}
 use Rattle.format.specs.declared.Written.{Written}
 use Rattle.frames.specs.Ids.{idOf, id-small}
-use Rattle.frames.specs.Builder.{grownBy, storeMost, isOver, isFull, Within, within, has-room}
+use Rattle.frames.specs.Builder.{grownFor, storeMost, isOver, isFull, Within, within, has-room}
 use Rattle.frames.specs.Append.{headBytes, refused}
 use Rattle.frames.specs.declared.State.{State}
 use Rattle.texts.specs.Judge.{itemMost, why, itemIn}
@@ -70,8 +70,8 @@ module _ {state : State} {xs w t : List ℕ} {n : ℕ} {s : List ℕ} (a : Accep
   pub some-word : 0 < length w
   some-word = first .0
 
-  pub id-fits : Fits w8 (getD w 0 0)
-  id-fits = record { fits = omega (arith, first .1, id-small (sectionIn w)) }
+  pub word-as-id : Fits w8 (getD w 0 0)
+  word-as-id = record { fits = omega (arith, first .1, id-small (sectionIn w)) }
 
   room : state .used + n + 5 ≤ length xs
   room = has-room state xs n (a .room)
@@ -92,7 +92,7 @@ module _ {state : State} {xs w t : List ℕ} {n : ℕ} {s : List ℕ} (a : Accep
 
     -- head and item, one behind the other, and the state that they make
     pub frame-put : {g : State} {ys : List ℕ}
-        → (Tried w t n s → Puts w t (midOf (state .used + 5) (length headed - (state .used + 5)) headed) ys) → g ≡ grownBy state n
+        → (Tried w t n s → Puts w t (midOf (state .used + 5) (length headed - (state .used + 5)) headed) ys) → g ≡ grownFor state n
         → outcome (record { state = g; number = 0 }) (putMid (state .used + 5) (length headed - (state .used + 5)) headed ys) ≡ added state xs w t
     frame-put {g} {ys} b e =
         let at = state .used in
@@ -102,4 +102,4 @@ module _ {state : State} {xs w t : List ℕ} {n : ℕ} {s : List ℕ} (a : Accep
         let left : length (midOf (at + 5) (length headed - (at + 5)) headed) ≡ length headed - (at + 5) = ap length (rest-lent (at + 5) headed) ∙ length-drop (at + 5) headed in
         let fit : length item ≤ length (midOf (at + 5) (length headed - (at + 5)) headed) = omega (arith, left, long, room, l) in
         let stored = todo-two at (headBytes (idOf (sectionIn w)) (length item)) item xs (omega (arith, room, l)) head (writes fit refl (b (a .tried) (a .sound) fit)) in
-        (λ i. record { number = 0; state = (e ∙ ap (grownBy state) (sym l)) i; store = stored i })
+        (λ i. record { number = 0; state = (e ∙ ap (grownFor state) (sym l)) i; store = stored i })

@@ -32,8 +32,8 @@ module _ (id : ℕ) (out : List ℕ) {b old : List ℕ} {s : Done} {new : List �
   all-of : frontOf b ≡ b
   all-of = take-all textMost b k
 
-  pub none-there : r ≡ walks.No → refused out 11 ≡ reading id b out
-  none-there e = none-read id b out (none-begins id b out (ap (beginsIn id) all-of ∙ not-found h e))
+  pub item-missing : r ≡ walks.No → refused out 11 ≡ reading id b out
+  item-missing e = none-read id b out (none-begins id b out (ap (beginsIn id) all-of ∙ not-found h e))
 
   module _ (z : s .v ≡ noRefusal) {end : ℕ} {u : Done} (q : r ≡ walks.Got end u) {n : ℕ} (c : n ≡ countIn u) where
     item : Found (beginsIn id) recordOf silent b 0 old s new end u

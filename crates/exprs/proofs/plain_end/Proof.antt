@@ -1,6 +1,6 @@
 -- `exprs::plain_end` meets its contract. Assumes nothing.
 use borrow.Author.Needs.{needs}
-use Rattle.exprs.proofs.Ends.{bytes-passed, nothing-passed, none-left, heap-passed, no-heap}
+use Rattle.exprs.proofs.Ends.{bytes-passed, nothing-passed, none-left, heap-passed, heap-wrong}
 use Rattle.exprs.proofs.plain_end.Statement.{statement}
 use Rattle.exprs.proofs.plain_end.Tie as tie
 
@@ -16,4 +16,4 @@ plain-end-spec =
     (λ c κs. search needs)
     (λ c. search needs)
     (λ c. search heap-passed)
-    (λ c. search no-heap))
+    (λ c. search heap-wrong))

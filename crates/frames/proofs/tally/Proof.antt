@@ -5,7 +5,7 @@ use lib.ListN.{length}
 use borrow.Author.Needs.{needs}
 use Rattle.frames.specs.Tally.{table, tallyOf}
 use Rattle.frames.proofs.Finding.{id-below, id-scaled, frame-from, item-from, frame-less}
-use Rattle.frames.proofs.Walking.{Tallied, tally-none, count-fits, total-fits, tally-more, tally-stop, tally-done}
+use Rattle.frames.proofs.Walking.{Tallied, tally-none, count-grows, total-grows, tally-more, tally-stop, tally-done}
 use Rattle.frames.proofs.tally.Statement.{statement}
 use Rattle.frames.proofs.tally.Tie as tie
 
@@ -40,13 +40,13 @@ tally-spec =
     (λ c. search needs)
     (λ c. search id-scaled)
     (λ c. search id-below)
-    (λ c. search (count-fits, slice-fits))
+    (λ c. search (count-grows, slice-fits))
     (λ c. search id-below)
     (λ c. search frame-from)
     (λ c. search item-from)
     (λ c. search id-scaled)
     (λ c. search id-below)
-    (λ c. search (total-fits, slice-fits))
+    (λ c. search (total-grows, slice-fits))
     (λ c. search id-below)
     (λ c. search frame-less)
     (λ c. search tally-more)

@@ -3,13 +3,13 @@ use borrow.Author.Needs.{needs}
 use Prim.Native.Nat.{_-_, _<_, _^_}
 use lib.ListN.{length}
 use denote.Ref.{now}
-use Rattle.names.specs.Name.{Passed}
+use Rattle.names.specs.Name.{NamedTo}
 use Rattle.names.proofs.Naming.{passed-none, eight-passed, eight-fits}
 use Rattle.names.proofs.eights_end.Statement.{statement}
 use Rattle.names.proofs.eights_end.Tie as tie
 
 abbrev Inv-loop : tie.InvT-loop
-Inv-loop s at i₀ i = Passed s at i
+Inv-loop s at i₀ i = NamedTo s at i
 
 abbrev μ-loop : tie.MeasureT-loop
 μ-loop s at i₀ i = length s - i

@@ -2,13 +2,13 @@
 use borrow.Author.Needs.{needs}
 use Prim.Native.Nat.{_-_}
 use lib.ListN.{length}
-use Rattle.names.specs.Name.{Passed}
+use Rattle.names.specs.Name.{NamedTo}
 use Rattle.names.proofs.Naming.{passed-none, wide-begins, none-passed, wide-passed, less-left, plain-passed, plains-passed, all-passed}
 use Rattle.names.proofs.is_mixed_name.Statement.{statement}
 use Rattle.names.proofs.is_mixed_name.Tie as tie
 
 abbrev Inv-loop : tie.InvT-loop
-Inv-loop s at₀ at = Passed s 0 at
+Inv-loop s at₀ at = NamedTo s 0 at
 
 abbrev μ-loop : tie.MeasureT-loop
 μ-loop s at₀ at = length s - at

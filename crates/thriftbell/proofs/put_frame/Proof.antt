@@ -1,6 +1,6 @@
 -- `thriftbell::put_frame` meets its contract. Assumes nothing.
 use borrow.Author.Needs.{needs}
-use Rattle.thriftbell.proofs.Adding.{some-word, id-fits, item-place, frame-within, frame-put}
+use Rattle.thriftbell.proofs.Adding.{some-word, word-as-id, item-place, frame-within, frame-put}
 use Rattle.thriftbell.proofs.put_frame.Statement.{statement}
 use Rattle.thriftbell.proofs.put_frame.Tie as tie
 
@@ -10,7 +10,7 @@ put-frame-spec =
     (tie.spec
     (λ c. search needs)
     (λ c. search some-word)
-    (λ c. search id-fits)
+    (λ c. search word-as-id)
     (λ c. search needs)
     (λ c. search needs)
     (λ c. search needs)

@@ -1,6 +1,6 @@
 -- `thriftbell::read_tried` meets its contract. Assumes nothing.
 use borrow.Author.Needs.{needs}
-use Rattle.thriftbell.proofs.Reading.{none-there, many-there, short-there, words-there}
+use Rattle.thriftbell.proofs.Reading.{item-missing, many-there, short-there, words-there}
 use Rattle.thriftbell.proofs.read_tried.Statement.{statement}
 use Rattle.thriftbell.proofs.read_tried.Tie as tie
 
@@ -13,7 +13,7 @@ read-tried-spec =
     (λ c. search needs)
     (λ c. search needs)
     (λ c. search needs)
-    (λ c. search none-there)
+    (λ c. search item-missing)
     (λ c κs. search needs)
     (λ c. search needs)
     (λ c. search many-there)

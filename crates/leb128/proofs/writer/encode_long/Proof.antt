@@ -1,12 +1,12 @@
 -- `leb128::writer::encode_long` meets its contract: what the buffer will be, once the rest w is written from place i on, stays what it is to be. Assumes nothing.
 use borrow.Author.Needs.{needs}
 use lib.Dec.{lit<}
-use Rattle.leb128.proofs.Writing.{group-fits, less-left, Put, put-short, put-starts, put-kept, put-goes-on, put-ends}
+use Rattle.leb128.proofs.Writing.{group-fits, less-left, PutTo, put-short, put-starts, put-kept, put-goes-on, put-ends}
 use Rattle.leb128.proofs.writer.encode_long.Statement.{statement}
 use Rattle.leb128.proofs.writer.encode_long.Tie as tie
 
 abbrev Inv-loop : tie.InvT-loop
-Inv-loop signed neg a out₀ limit turn w₀ i₀ out w i = Put signed neg a out₀ w i out
+Inv-loop signed neg a out₀ limit turn w₀ i₀ out w i = PutTo signed neg a out₀ w i out
 
 abbrev μ-loop : tie.MeasureT-loop
 μ-loop signed neg a out₀ limit turn w₀ i₀ out w i = w

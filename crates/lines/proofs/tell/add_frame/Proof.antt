@@ -1,7 +1,7 @@
 -- `lines::tell::add_frame` meets its contract: the text is behind the words. Assumes nothing.
 use native.Mathlib.Omega.{arith}
 use borrow.Author.Needs.{needs}
-use Rattle.lines.proofs.Framing.{no-words, words-missing, words-within, text-within, words-fit, text-fits, frame-found}
+use Rattle.lines.proofs.Framing.{no-words, words-missing, words-within, text-within, words-fit, text-fits, frame-told}
 use Rattle.lines.proofs.Telling.{tells-none, tells-same}
 use Rattle.lines.proofs.tell.add_frame.Statement.{statement}
 use Rattle.lines.proofs.tell.add_frame.Tie as tie
@@ -35,4 +35,4 @@ add-frame-spec =
     (λ c. search needs)
     (λ c κs. search needs)
     (λ c. search needs)
-    (λ c. search (tells-same, frame-found)))
+    (λ c. search (tells-same, frame-told)))
