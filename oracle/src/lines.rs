@@ -70,6 +70,75 @@ impl Builder {
     }
 }
 
+// A frame and the byte that makes its sum wrap to 00, as a line.
+pub fn checked(frame: &[u8]) -> String {
+    hex(&[frame, &[0u8.wrapping_sub(frame.iter().fold(0, |s: u8, b| s.wrapping_add(*b)))]].concat())
+}
+
+// A record of n bytes of passive data.
+fn data(n: usize) -> String {
+    let mut frame = vec![1, 7, 0];
+    [11, 0, 0, 0, 0, 0, n as u32].iter().for_each(|w: &u32| frame.extend(w.to_le_bytes()));
+    frame.extend(vec![0x2A; n]);
+    checked(&frame)
+}
+
+// Coins of these lengths, at most 32 of them, that make a sum: how often each.
+fn change(coins: &[usize], sum: usize) -> Option<Vec<usize>> {
+    let mut ways: Vec<Option<Vec<usize>>> = vec![None; sum + 1];
+    ways[0] = Some(vec![]);
+    for at in 0..sum {
+        let Some(way) = ways[at].clone() else { continue };
+        for (i, coin) in coins.iter().enumerate() {
+            if at + coin <= sum && way.len() < 32 && ways[at + coin].as_ref().is_none_or(|w| w.len() > way.len() + 1) {
+                ways[at + coin] = Some([&way[..], &[i]].concat());
+            }
+        }
+    }
+    ways[sum].clone()
+}
+
+impl Builder {
+    // The room left is filled exactly, after one byte too many was refused; one more is refused; then a module of as many bytes as the output has, and one more.
+    fn edges(&mut self) -> Vec<String> {
+        let mut lines = vec![];
+        while self.used + 2100 < STORE {
+            lines.push(data(2000));
+            self.answer(lines[lines.len() - 1].as_bytes());
+        }
+        let exact = |b: &Builder| (0..2100).find(|n| b.used + 5 + 1 + if *n < 128 { 1 } else { 2 } + n == STORE);
+        let n = exact(self).expect("room for data of one more length");
+        for n in [n + 1, n, 0] {
+            lines.push(data(n));
+            self.answer(lines[lines.len() - 1].as_bytes());
+        }
+        for sum in [STORE, STORE + 1] {
+            let ids = [1, 2, 4, 9, 11, 12];
+            let found = [0u32, 128, 16384, 2097152].iter().find_map(|count| {
+                let coins: Vec<usize> = ids.iter().map(|id| self.sections.module(&[*id], *count).len() - 8).collect();
+                change(&coins, sum - 8).map(|way| (count, way))
+            });
+            let (count, way) = found.expect("an order list for every length");
+            let order: Vec<u8> = way.iter().map(|i| ids[*i]).collect();
+            lines.push(checked(&[&[2][..], &count.to_le_bytes(), &order].concat()));
+        }
+        lines
+    }
+}
+
+// An input with lines for the edges of its store and of the output, behind the last of its own that leaves room for them.
+pub fn edges(input: &[u8]) -> Vec<u8> {
+    let lines: Vec<&[u8]> = input.split_inclusive(|b| *b == b'\n').collect();
+    let bare = |line: &&[u8]| line.strip_suffix(b"\n").unwrap_or(line).to_vec();
+    let mut builder = Builder::default();
+    let used: Vec<usize> = lines.iter().map(|l| (builder.answer(&bare(l)), builder.used).1).collect();
+    let front = used.iter().rposition(|used| used + 64 <= STORE).map_or(0, |i| i + 1);
+    let mut builder = Builder::default();
+    lines[..front].iter().for_each(|l| drop(builder.answer(&bare(l))));
+    let added: String = builder.edges().iter().map(|l| l.clone() + "\n").collect();
+    [lines[..front].concat(), added.into_bytes(), lines[front..].concat()].concat()
+}
+
 // Every line of an input; the last may lack its line feed.
 pub fn answers(input: &[u8]) -> String {
     let mut builder = Builder::default();
@@ -96,9 +165,17 @@ mod tests {
         let words: [u32; 22] = [1, 0, 1, 1, 0, 0, 0, 0, 0, 0, 0, 2, 0, 0, 0, 0, 0, 0, 1, 0, 0, 0];
         let mut add = vec![1, 22, 0];
         words.iter().for_each(|w| add.extend(w.to_le_bytes()));
-        let checked = |frame: &[u8]| hex(&[frame, &[0u8.wrapping_sub(frame.iter().fold(0, |s: u8, b| s.wrapping_add(*b)))]].concat());
         let input = format!("{}\n{}\n{}\n", checked(&add), checked(&[2, 0, 0, 0, 0, 1]), checked(&[2, 0, 0, 0, 0]));
         assert_eq!(answers(input.as_bytes()), "00\n000061736D0100000001070160027F7F017F\n000061736D01000000\n");
+    }
+
+    // 7, 0, 7, and the two modules
+    #[test]
+    fn edges_of_sizes() {
+        let all = answers(&edges(b""));
+        let told: Vec<&str> = all.lines().collect();
+        let [.., a, b, c, d, e] = told[..] else { panic!() };
+        assert_eq!((a, b, c, d.len(), e), ("07", "00", "07", 2 + 2 * STORE, "0A"));
     }
 
     #[test]

@@ -1,2 +1,3 @@
 -- What the proofs of `hexlines` share.
+pub mod Hearing
 pub mod Answering

@@ -38,13 +38,13 @@ module _ {w t old : List ℕ} {s : Done} {new : List ℕ} {r : Walk} {from : ℕ
       found : Measured records w t from u
       found = measured records w t old s new r h q all few e (b .few)
 
-      below : Below records w t from (found .value)
-      below = b .below (found .value) (found .is)
-
       pub text-too-long : textMost < length t → Judges w t old new (Refused 3)
       text-too-long l = record { is = refused-is w t 3 (λ z. omega arith) (long-text records w t found l); puts = left }
 
       module _ (short : length t ≤ textMost) {low : ℕ} (l : low ≡ lowIn u) where
+        below : Below records w t from (found .value)
+        below = b .below short (found .value) (found .is)
+
         pub text-refused : {k : ℕ} → low < from → k ≡ lowIn u → Judges w t old new (Refused k)
         text-refused {k} i f =
             let d = drawn-low records w t found (b .few) below short (omega arith) in

@@ -65,10 +65,14 @@ pub enum Judged {
 }
 
 // The refusal that judging starts with, above which none is looked for. All texts of an import are names, and where its text is plain, none of them draws 4: they
-// are then not checked one by one. A text that is long for so few words is not looked through.
+// are then not checked one by one. A text that is long for so few words is not looked through. Of a text that is over its limit nothing is looked at: no refusal is
+// below 0.
 fn start(words: &[u32], text: &[u8]) -> u32
     ensures { λ r. ⌜ Starts (now (words .entry)) (now (text .entry)) r ⌝ }
 {
+    if TEXT_MOST < text.len() {
+        return 0;
+    }
     if words.len() == 0 {
         return NO_REFUSAL;
     }

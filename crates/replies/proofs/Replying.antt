@@ -51,11 +51,11 @@ module _ (r : Run) (line store buffer out : List ℕ) (x : Written) (after : Sta
   not-short e = absurd (never-short (r .at) (r .state) line store buffer out x after store' buffer' free room h e)
 
   pub replied : {n : ℕ} → x ≡ Length n
-      → Replied r (answerTo r line store buffer out) out (record { state = after; n = 0; at = r .at + n + 1; ok = r .ok }) store' buffer' (set (putMid (r .at) (length out - r .at) out free) (r .at + n) 0x0A)
+      → Replied r (answerTo r line store buffer out) out (record { state = after; n = 0; at = r .at + n + 1 }) store' buffer' (set (putMid (r .at) (length out - r .at) out free) (r .at + n) 0x0A)
   replied {n} e =
       let d = stands (r .at) (r .state) line store buffer out x after store' buffer' free room h e in
       record {
-        run = λ i. record { state = d i .state; n = 0; at = r .at + d i .value + 1; ok = r .ok };
+        run = λ i. record { state = d i .state; n = 0; at = r .at + d i .value + 1 };
         store = ap (λ (o : Outcome). o .store) d;
         buffer = ap (λ (o : Outcome). o .buffer) d;
         answers = ap (λ (l : List ℕ). set l (r .at + n) 0x0A) (rest-back (r .at) out free (omega arith)) ∙ (λ i. set (take (r .at) out ++ d i .out) (r .at + d i .value) 0x0A);

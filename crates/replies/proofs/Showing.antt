@@ -1,7 +1,6 @@
 -- What the memory shows after a part of a line, and after a line. Assumes nothing.
 use mathlib.Core.Path.{_≡_, refl, sym, ap, subst, _∙_}
 use mathlib.Core.Logic.{⊎-elim}
-use mathlib.Core.Bool.{Bool}
 use mathlib.Core.List.{List, [], _∷_, _++_, append-nil, append-assoc}
 use Prim.Native.Nat.{ℕ, _+_, _-_, _≤_, _<_, min}
 use native.Mathlib.Numerals.{add-one}
@@ -15,7 +14,7 @@ use Rattle.hex.specs.Line.{lineOf}
 use Rattle.lines.specs.Done.{doing}
 use Rattle.lines.specs.Answer.{Outcome, answerLine, answered, answers-line}
 use Rattle.replies.specs.Input.{Kept, answerOf, ended, more, keptMost, closed-none, closed-line, front-tells, front-more}
-use Rattle.replies.specs.Run.{longest, Ready, Shows, Gathered, Roomy, answerTo, Replied, Ends, Closes}
+use Rattle.replies.specs.Run.{bufferLong, longest, Ready, Shows, Gathered, answerTo, Replied, Ends, Closes}
 use Rattle.replies.specs.declared.Run.{Run}
 
 -- ---- a part of a line
@@ -32,7 +31,7 @@ part-front line part n m h e =
 
 pub part-gathered : (r : Run) (part line : List ℕ) {m : ℕ} {w : Written} (zs : List ℕ) → r .n ≤ length line → m ≡ min (length part) (length line - r .n)
     → Writes (take (m - 0) (drop 0 part)) (midOf (r .n) (length line - r .n) line) zs w → length zs ≡ length (midOf (r .n) (length line - r .n) line)
-    → Gathered r part line (putMid (r .n) (length line - r .n) line zs) (record { state = r .state; n = r .n + m; at = r .at; ok = r .ok })
+    → Gathered r part line (putMid (r .n) (length line - r .n) line zs) (record { state = r .state; n = r .n + m; at = r .at })
 part-gathered r part line {m} {w} zs h e x l =
     let n = r .n in
     let z : m - 0 ≡ m = omega arith in
@@ -60,8 +59,7 @@ shows-part k r s part line line' store buffer out l h g =
       stored = h .stored;
       built = h .built;
       front = g .front ∙ ap (λ (n : ℕ). take n (take (r .n) line ++ part)) l ∙ ap (λ (f : List ℕ). take keptMost (f ++ part)) (h .front) ∙ front-more keptMost (k .line) part;
-      handed = h .handed;
-      waits = ap (λ (n : ℕ). h .handed ++ take n out) (g .waiting) ∙ h .waits;
+      waits = ap (λ (n : ℕ). take n out) (g .waiting) ∙ h .waits;
     }
 
 -- ---- a line
@@ -80,66 +78,54 @@ waits-more at a xs h =
     ∙ take-at (take at xs ++ a) (drop (length a) (drop at xs)) n (omega (arith, length-append (take at xs) a)))
     ∙ append-assoc (take at xs) a (0x0A ∷ [])
 
-module _ (k : Kept) (r m s : Run) (line store buffer out store' buffer' out' : List ℕ) (h : Shows k r line store buffer out) (g : Roomy r out m)
-    (l : length buffer ≤ 32768) (w : Replied m (answerTo m (take (r .n - 0) (drop 0 line)) store buffer out) out s store' buffer' out') where
-  did : doing (m .state) store buffer (lineOf (take (r .n - 0) (drop 0 line))) ≡ answerOf k
+module _ (k : Kept) (r s : Run) (line store buffer out store' buffer' out' : List ℕ) (h : Shows k r line store buffer out) (l : length buffer ≡ bufferLong)
+    (g : r .at + longest ≤ length out) (w : Replied r (answerTo r (take (r .n - 0) (drop 0 line)) store buffer out) out s store' buffer' out') where
+  did : doing (r .state) store buffer (lineOf (take (r .n - 0) (drop 0 line))) ≡ answerOf k
   did =
       let z : r .n - 0 ≡ r .n = omega arith in
       let f : lineOf (take (r .n - 0) (drop 0 line)) ≡ lineOf (k .line) = rw z (ap lineOf (h .front) ∙ front-tells (k .line)) in
-      λ i. doing ((g .state ∙ h .state) i) (h .stored i) (h .built i) (f i)
+      λ i. doing (h .state i) (h .stored i) (h .built i) (f i)
 
-  said : answerTo m (take (r .n - 0) (drop 0 line)) store buffer out ≡ answered (drop (m .at) out) (answerOf k)
+  said : answerTo r (take (r .n - 0) (drop 0 line)) store buffer out ≡ answered (drop (r .at) out) (answerOf k)
   said =
-      sym (answers-line (m .state) store buffer (drop (m .at) out) (take (r .n - 0) (drop 0 line)) (omega (arith, g .room, length-drop (m .at) out)))
-      ∙ ap (answered (drop (m .at) out)) did
+      sym (answers-line (r .state) store buffer (drop (r .at) out) (take (r .n - 0) (drop 0 line)) (omega (arith, length-drop (r .at) out)))
+      ∙ ap (answered (drop (r .at) out)) did
 
   shows-end : Shows (ended k) s line store' buffer' out'
   shows-end =
       let a = answerLine (answerOf k) in
-      let n : answerTo m (take (r .n - 0) (drop 0 line)) store buffer out .value ≡ length a = ap (λ (o : Outcome). o .value) said in
-      let at : s .at ≡ m .at + length a + 1 = ap (λ (r : Run). r .at) (w .run) ∙ ap (λ (j : ℕ). m .at + j + 1) n in
-      let ys : out' ≡ set (take (m .at) out ++ over a (drop (m .at) out)) (m .at + length a) 0x0A =
-      w .answers ∙ (λ i. set (take (m .at) out ++ said i .out) (m .at + said i .value) 0x0A) in
+      let n : answerTo r (take (r .n - 0) (drop 0 line)) store buffer out .value ≡ length a = ap (λ (o : Outcome). o .value) said in
+      let at : s .at ≡ r .at + length a + 1 = ap (λ (r : Run). r .at) (w .run) ∙ ap (λ (j : ℕ). r .at + j + 1) n in
+      let ys : out' ≡ set (take (r .at) out ++ over a (drop (r .at) out)) (r .at + length a) 0x0A =
+      w .answers ∙ (λ i. set (take (r .at) out ++ said i .out) (r .at + said i .value) 0x0A) in
       record {
         state = ap (λ (r : Run). r .state) (w .run) ∙ ap (λ (o : Outcome). o .state) said;
         stored = w .store ∙ ap (λ (o : Outcome). o .store) said;
         built = w .buffer ∙ ap (λ (o : Outcome). o .buffer) said;
         front = ap (λ (r : Run). take (r .n) line) (w .run) ∙ sym (take-nil keptMost);
-        handed = h .handed ++ g .handed;
-        waits = (λ i. (h .handed ++ g .handed) ++ take (at i) (ys i))
-            ∙ ap (λ (l : List ℕ). (h .handed ++ g .handed) ++ l) (waits-more (m .at) a out (omega (arith, w .fits, n)))
-            ∙ sym (append-assoc (h .handed ++ g .handed) (take (m .at) out) (a ++ (0x0A ∷ [])))
-            ∙ ap (λ (l : List ℕ). l ++ (a ++ (0x0A ∷ [])))
-            (append-assoc (h .handed) (g .handed) (take (m .at) out) ∙ ap (λ (l : List ℕ). h .handed ++ l) (g .waits) ∙ h .waits);
+        waits = (λ i. take (at i) (ys i)) ∙ waits-more (r .at) a out (omega (arith, w .fits, n)) ∙ ap (λ (l : List ℕ). l ++ (a ++ (0x0A ∷ []))) (h .waits);
       }
 
 -- nothing of it is gathered any more, and its answer waits
-pub line-ends : {r m s : Run} {line store buffer out store' buffer' out' : List ℕ} → Ready r line buffer out → Roomy r out m
-    → Replied m (answerTo m (take (r .n - 0) (drop 0 line)) store buffer out) out s store' buffer' out' → length buffer' ≡ length buffer → length out' ≡ length out
-    → Ends r line store buffer out s store' buffer' out'
-line-ends {r} {m} {s} {line} {store} {buffer} {out} {store'} {buffer'} {out'} p g w b o =
+pub line-ends : {r s : Run} {line store buffer out store' buffer' out' : List ℕ} → Ready r line store buffer out → r .at + longest ≤ length out
+    → Replied r (answerTo r (take (r .n - 0) (drop 0 line)) store buffer out) out s store' buffer' out' → length store' ≡ length store → length buffer' ≡ length buffer
+    → length out' ≡ length out → Ends r line store buffer out s store' buffer' out'
+line-ends {r} {s} {line} {store} {buffer} {out} {store'} {buffer'} {out'} p g w t b o =
     record {
       ready = record {
         gathered = omega (arith, ap (λ (r : Run). r .n) (w .run));
         waiting = omega (arith, ap (λ (r : Run). r .at) (w .run), w .fits);
         lined = p .lined;
-        buffered = omega (arith, p .buffered);
+        stored = t ∙ p .stored;
+        buffered = b ∙ p .buffered;
         room = omega (arith, p .room);
       };
-      shows = λ k h. shows-end k r m s line store buffer out store' buffer' out' h g (p .buffered) w;
+      shows = λ k h. shows-end k r s line store buffer out store' buffer' out' h (p .buffered) g w;
     }
-
--- ---- room for an answer: nothing is handed on, or all that waits
-
-pub room-there : {r : Run} {out : List ℕ} → r .at ≤ length out → longest ≤ length out - r .at → Roomy r out r
-room-there h l = record { state = refl; room = omega arith; handed = []; waits = refl }
-
-pub room-made : {r : Run} {out : List ℕ} {ok : Bool} → longest ≤ length out → Roomy r out (record { state = r .state; n = r .n; at = 0; ok = ok })
-room-made {r} {out} l = record { state = refl; room = omega arith; handed = take (r .at) out; waits = append-nil (take (r .at) out) }
 
 -- ---- the end of the input
 
-module _ {r : Run} {line store buffer out : List ℕ} (p : Ready r line buffer out) where
+module _ {r : Run} {line store buffer out : List ℕ} (p : Ready r line store buffer out) where
   -- the line is empty exactly where nothing is gathered
   as-long : (k : Kept) → Shows k r line store buffer out → r .n ≡ min keptMost (length (k .line))
   as-long k h = omega (arith, ap length (h .front), length-take-le (r .n) line (p .gathered), length-take keptMost (k .line))

@@ -1,33 +1,10 @@
 // A line's answer and its line feed, behind the answers that wait to be written.
 use crate::Run;
-use libc::STDOUT_FILENO;
 use lines::answer;
 use thriftbell::Written;
 ghost use Prim.Native.Nat.{_+_, _*_, _≤_};
 ghost use lib.ListN.{length};
-ghost use Rattle.replies.specs.Run.{longest, Ready, Roomy, answerTo, Replied, Ends};
-
-// The longest answer: two digits, those of a module that fills its buffer, and the line feed.
-const LONGEST: usize = 65539;
-
-// What waits is written where the longest answer might not fit behind it.
-fn make_room(r: Run, out: &[u8]) -> Run
-    requires { ⌜ (r .at ≤ length (now out)) × (longest ≤ length (now out)) ⌝ }
-    ensures { λ s. ⌜ Roomy r (now (out .entry)) s ⌝ }
-{
-    let at = r.at;
-    if LONGEST <= out.len() - at {
-        return r;
-    }
-    let written = io::write_all(STDOUT_FILENO, &out[0..at]);
-    let state = r.state;
-    Run {
-        state: state,
-        n: r.n,
-        at: 0,
-        ok: written,
-    }
-}
+ghost use Rattle.replies.specs.Run.{longest, Ready, answerTo, Replied, Ends};
 
 fn reply(line: &[u8], r: Run, store: &mut [u8], buffer: &mut [u8], out: &mut [u8]) -> Run
     requires { ⌜ r .at + (3 + 2 * length (now buffer)) ≤ length (now out) ⌝ }
@@ -47,16 +24,15 @@ fn reply(line: &[u8], r: Run, store: &mut [u8], buffer: &mut [u8], out: &mut [u8
         state: state,
         n: 0,
         at: end + 1,
-        ok: r.ok,
     }
 }
 
 // The line that is gathered is at its end.
 pub fn end_line(r: Run, line: &[u8], store: &mut [u8], buffer: &mut [u8], out: &mut [u8]) -> Run
-    requires { ⌜ Ready r (now line) (now buffer) (now out) ⌝ }
+    requires { ⌜ Ready r (now line) (now store) (now buffer) (now out) ⌝ }
+    requires { ⌜ r .at + longest ≤ length (now out) ⌝ }
     ensures { λ s. ⌜ Ends r (now (line .entry)) (now (store .entry)) (now (buffer .entry)) (now (out .entry)) s (now (store .exit)) (now (buffer .exit)) (now (out .exit)) ⌝ }
 {
     let n = r.n;
-    let m = make_room(r, out);
-    reply(&line[0..n], m, store, buffer, out)
+    reply(&line[0..n], r, store, buffer, out)
 }

@@ -3,8 +3,7 @@ use Prim.Native.Nat.{_-_}
 use native.Mathlib.Omega.{arith}
 use lib.ListN.{length}
 use borrow.Author.Needs.{needs}
-use Rattle.replies.specs.Keeping.{line-kept, store-kept, buffer-kept, out-kept}
-use Rattle.replies.proofs.Taking.{Taking, none-taken, not-written, all-taken, next-fits, fewer-left, part-ready, part-taken, line-taken}
+use Rattle.replies.proofs.Taking.{Taking, none-taken, all-taken, next-fits, fewer-left, part-ready, part-taken, part-waits, line-room, line-taken}
 use Rattle.replies.proofs.input.take_piece.Statement.{statement}
 use Rattle.replies.proofs.input.take_piece.Tie as tie
 
@@ -31,12 +30,13 @@ take-piece-spec =
     (λ c. search needs)
     (λ c. search needs)
     (λ c. search part-taken)
-    (λ c κs. search part-ready)
-    (λ c. search line-kept)
-    (λ c. search store-kept)
-    (λ c. search buffer-kept)
-    (λ c. search out-kept)
-    (λ c. search not-written)
+    (λ c. search needs)
+    (λ c. search needs)
+    (λ c. search needs)
+    (λ c. search needs)
+    (λ c. search needs)
+    (λ c. search part-waits)
+    (λ c κs. (search part-ready, search line-room))
     (λ c. search next-fits)
     (λ c. search fewer-left)
     (λ c. search line-taken)
