@@ -127,7 +127,7 @@ impl Builder {
 }
 
 // An input with lines for the edges of its store and of the output, behind the last of its own that leaves room for them.
-pub fn edges(input: &[u8]) -> Vec<u8> {
+pub fn filled(input: &[u8]) -> Vec<u8> {
     let lines: Vec<&[u8]> = input.split_inclusive(|b| *b == b'\n').collect();
     let bare = |line: &&[u8]| line.strip_suffix(b"\n").unwrap_or(line).to_vec();
     let mut builder = Builder::default();
@@ -171,8 +171,8 @@ mod tests {
 
     // 7, 0, 7, and the two modules
     #[test]
-    fn edges_of_sizes() {
-        let all = answers(&edges(b""));
+    fn filled_exactly() {
+        let all = answers(&filled(b""));
         let told: Vec<&str> = all.lines().collect();
         let [.., a, b, c, d, e] = told[..] else { panic!() };
         assert_eq!((a, b, c, d.len(), e), ("07", "00", "07", 2 + 2 * STORE, "0A"));

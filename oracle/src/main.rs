@@ -16,11 +16,11 @@ fn main() {
     };
     let output = match args[..] {
         ["lines"] => lines::answers(&input()).into_bytes(),
-        ["edges"] => lines::edges(&input()),
+        ["filled"] => lines::filled(&input()),
         ["entries"] => String::from_utf8(input()).expect("text").lines().flat_map(|l| (entries::answer(l) + "\n").into_bytes()).collect(),
         ["make", kind, seed] => make::file(kind, seed.parse().expect("SEED is a number")),
         _ => {
-            eprintln!("usage: oracle lines | edges | entries | make lines|list|entries|reads|short|modules SEED");
+            eprintln!("usage: oracle lines | filled | entries | make lines|list|entries|reads|short|modules SEED");
             std::process::exit(2);
         }
     };
