@@ -6,7 +6,7 @@ use mathlib.Core.List.{List, [], _∷_, _++_, append-nil, append-assoc}
 use Prim.Native.Nat.{ℕ}
 use lib.Dec.{eqb}
 use lib.ListN.{length}
-use Rattle.format.specs.Lists.{prints}
+use Rattle.frames.specs.Tally.{joined}
 use Rattle.replies.specs.Input.{Kept, ended, more, heard, hears, closed, hears-more, fresh, says}
 
 -- nothing of what was said waits any more
@@ -70,16 +70,13 @@ abbrev pub behindAll : Kept → List (List ℕ) → Kept
 behindAll k [] = k
 behindAll k (p ∷ ps) = behindAll (quiet (hears k p)) ps
 
-abbrev joined : List (List ℕ) → List ℕ
-joined ps = prints (λ p. p) ps
-
-handed-all : (k : Kept) → k .said ≡ [] → (ps : List (List ℕ)) → handedOn k ps ++ closed (behindAll k ps) .said ≡ closed (hears k (joined ps)) .said
-handed-all k e [] = refl
-handed-all k e (p ∷ ps) =
+handed-all : (k : Kept) (ps : List (List ℕ)) → handedOn k ps ++ closed (behindAll k ps) .said ≡ closed (hears k (joined ps)) .said
+handed-all k [] = refl
+handed-all k (p ∷ ps) =
     let a = hears k p in
     let rest = handedOn (quiet a) ps in
     append-assoc (a .said) rest (closed (behindAll (quiet a) ps) .said)
-    ∙ ap (λ (l : List ℕ). a .said ++ l) (handed-all (quiet a) refl ps)
+    ∙ ap (λ (l : List ℕ). a .said ++ l) (handed-all (quiet a) ps)
     ∙ sym (whole a (joined ps))
     ∙ ap (λ (m : Kept). closed m .said) (sym (hears-more k p (joined ps)))
   where
@@ -94,4 +91,4 @@ handed-all k e (p ∷ ps) =
 
 -- for the parts of an input
 pub all-handed : (store buffer : List ℕ) (ps : List (List ℕ)) → handedOn (fresh store buffer) ps ++ closed (behindAll (fresh store buffer) ps) .said ≡ says store buffer (joined ps)
-all-handed store buffer ps = handed-all (fresh store buffer) refl ps
+all-handed store buffer ps = handed-all (fresh store buffer) ps

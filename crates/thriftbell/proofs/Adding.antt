@@ -19,7 +19,7 @@ use Rattle.items.specs.Record.{records}
 use Rattle.items.specs.Judging.{sectionIn, first-word, Judges, Tried, Puts, told-refused, told-length, judged-tried}
 use Rattle.items.specs.declared.Judged.{Judged}
 use Rattle.items.specs.declared.Judged.the-variants.{Refused, Length}
-use Rattle.thriftbell.specs.Add.{outcome, added, adding, over, drawn, full, fits, Accepted}
+use Rattle.thriftbell.specs.Add.{outcome, added, adding, over, drawn, full, fits, Storable}
 
 -- ---- the answer
 
@@ -56,14 +56,14 @@ module _ (state : State) (xs w t : List ℕ) {b : Bool} (o : b ≡ isOver state 
         frame-added m p = p ∙ fits state xs w t not-over (good .0) (filled ∙ m)
 
 pub accepted : {state : State} {xs w t old new : List ℕ} {r : Judged} {n : ℕ} {f : Bool} → Judges w t old new r → length new ≡ length old → r ≡ Length n → Within state xs
-    → f ≡ isFull state xs n → f ≡ false → Accepted state xs w t n new
+    → f ≡ isFull state xs n → f ≡ false → Storable state xs w t n new
 accepted {w = w} {t = t} {old = old} {new = new} {n = n} j l e i q m =
     let g = told-length w t n (sym (j .is) ∙ e) in
     record { inside = i; sound = g .0; tried = judged-tried w t n old new (g .0) (g .1) l (j .puts); room = sym q ∙ m }
 
 -- ---- the frame
 
-module _ {state : State} {xs w t : List ℕ} {n : ℕ} {s : List ℕ} (a : Accepted state xs w t n s) where
+module _ {state : State} {xs w t : List ℕ} {n : ℕ} {s : List ℕ} (a : Storable state xs w t n s) where
   first : (0 < length w) × (getD w 0 0 ≡ idOf (sectionIn w))
   first = first-word w t (a .sound)
 

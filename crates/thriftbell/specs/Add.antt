@@ -96,7 +96,7 @@ module _ (state : State) (xs w t : List ℕ) where
           sym (settled-accepts (refused state xs) added (answer conditions) z)
 
 -- a record that is accepted: none of them holds, its item has n bytes, and stands at the front of what was tried, where there was room
-pub record Accepted (state : State) (xs w t : List ℕ) (n : ℕ) (s : List ℕ) : Type 0 where
+pub record Storable (state : State) (xs w t : List ℕ) (n : ℕ) (s : List ℕ) : Type 0 where
   pub inside : Within state xs
   pub sound : why records w t ≡ 0
   pub tried : Tried w t n s

@@ -31,7 +31,7 @@ pub use numbers::encode_u64;
 ghost use mathlib.Core.Path.{_≡_};
 ghost use Prim.Native.Nat.{_≤_};
 ghost use lib.ListN.{length};
-ghost use Rattle.thriftbell.specs.Add.{Accepted, outcome, added, adding};
+ghost use Rattle.thriftbell.specs.Add.{Storable, outcome, added, adding};
 ghost use Rattle.thriftbell.specs.Read.{outcome as readOutcome, reading, PutsWords};
 
 // What adding answers: 0, and the state with the frame's room used too; or a number of the table, and then nothing was changed.
@@ -49,7 +49,7 @@ fn put_frame(
     n: usize,
     tried: &[u8],
 ) -> State
-    requires { ⌜ Accepted state (now store) (now words) (now text) n (now tried) ⌝ }
+    requires { ⌜ Storable state (now store) (now words) (now text) n (now tried) ⌝ }
     ensures { λ r. ⌜ outcome (record { state = r; number = 0 }) (now (store .exit)) ≡ added state (now (store .entry)) (now (words .entry)) (now (text .entry)) ⌝ }
 {
     let at = state.used;
