@@ -26,24 +26,24 @@ told p q = p ∙ q
 
 -- writing
 module _ {r l : ℕ} (w : Written) (t : (out : List ℕ) → written r l out ≡ outcome w out) where
-  pub written-told : {b xs ys : List ℕ} → Writes b xs ys w → written r l ys ≡ writing b xs
-  written-told {ys = ys} p = t ys ∙ p.right
+  pub written_told : {b xs ys : List ℕ} → Writes b xs ys w → written r l ys ≡ writing b xs
+  written_told {ys = ys} p = t ys ∙ p.right
 
 -- a number with a sign, written as f says
-pub signed-told : (f : ℤ → List ℕ) {r l : ℕ} (w : Written) → ((out : List ℕ) → written r l out ≡ outcome w out) → {n : Width} (v : ℤ) {xs ys : List ℕ} → SFits n v
+pub signed_told : (f : ℤ → List ℕ) {r l : ℕ} (w : Written) → ((out : List ℕ) → written r l out ≡ outcome w out) → {n : Width} (v : ℤ) {xs ys : List ℕ} → SFits n v
     → Writes (f (to_z n (of_z n v))) xs ys w → written r l ys ≡ writing (f v) xs
-signed-told f w t v {xs} {ys} s p = written-told w t (rw (to_z-of_z s) at p)
+signed_told f w t v {xs} {ys} s p = written_told w t (rw (to_z-of_z s) at p)
 
 -- adding, finishing, reading an item, and a line
-pub added-told : {r u : ℕ} {a : Added} {ys : List ℕ} {o : append.Outcome} → ((store : List ℕ) → added r u store ≡ add.outcome a store) → add.outcome a ys ≡ o → added r u ys ≡ o
-added-told {ys = ys} t p = t ys ∙ p
+pub added_told : {r u : ℕ} {a : Added} {ys : List ℕ} {o : append.Outcome} → ((store : List ℕ) → added r u store ≡ add.outcome a store) → add.outcome a ys ≡ o → added r u ys ≡ o
+added_told {ys = ys} t p = t ys ∙ p
 
-pub finished-told : {r l : ℕ} (f : Finished) {ys : List ℕ} {o : write.Outcome} → ((out : List ℕ) → written r l out ≡ finish.outcome f out) → finish.outcome f ys ≡ o → written r l ys ≡ o
-finished-told f {ys} t p = t ys ∙ p
+pub finished_told : {r l : ℕ} (f : Finished) {ys : List ℕ} {o : write.Outcome} → ((out : List ℕ) → written r l out ≡ finish.outcome f out) → finish.outcome f ys ≡ o → written r l ys ≡ o
+finished_told f {ys} t p = t ys ∙ p
 
-pub taken-told : {r m n : ℕ} (a : Taken) {ys : List ℕ} {o : read.Outcome} → ((out : List ℕ) → took r m n out ≡ read.outcome a out) → read.outcome a ys ≡ o → took r m n ys ≡ o
-taken-told a {ys} t p = t ys ∙ p
+pub taken_told : {r m n : ℕ} (a : Taken) {ys : List ℕ} {o : read.Outcome} → ((out : List ℕ) → took r m n out ≡ read.outcome a out) → read.outcome a ys ≡ o → took r m n ys ≡ o
+taken_told a {ys} t p = t ys ∙ p
 
-pub reply-told : {r u l : ℕ} (a : Reply) {s b ys : List ℕ} {o : line.Outcome} → ((store buffer out : List ℕ) → answered r u l store buffer out ≡ numbered (line.outcome a store buffer out))
+pub reply_told : {r u l : ℕ} (a : Reply) {s b ys : List ℕ} {o : line.Outcome} → ((store buffer out : List ℕ) → answered r u l store buffer out ≡ numbered (line.outcome a store buffer out))
     → line.outcome a s b ys ≡ o → answered r u l s b ys ≡ numbered o
-reply-told a {s} {b} {ys} t p = t s b ys ∙ ap numbered p
+reply_told a {s} {b} {ys} t p = t s b ys ∙ ap numbered p

@@ -7,7 +7,7 @@ ghost use Rattle.format.specs.Read.{reading};
 ghost use Rattle.format.specs.Write.{writing};
 ghost use Rattle.leb128.specs.Leb.{uleb, sleb};
 ghost use Rattle.leb128.specs.Formats.{u32 as u32s, u64 as u64s, s32, s64, index};
-ghost use Rattle.names.specs.Name.{isName};
+ghost use Rattle.names.specs.Name.{is_name};
 ghost use Rattle.exprs.specs.Scan.{answer};
 ghost use Rattle.exprs.specs.Const.{const_of};
 ghost use Rattle.sections.specs.Section.{ending};
@@ -131,7 +131,7 @@ pub extern "C" fn thriftbell_encoding_size(n: u32) -> usize
 
 #[unsafe(no_mangle)]
 pub extern "C" fn thriftbell_is_name(s: &[u8]) -> bool
-    ensures { result ≡ isName s.now }
+    ensures { result ≡ is_name s.now }
 {
     names::is_name(s)
 }

@@ -2,7 +2,7 @@
 ghost use Rattle.std.specs.Prelude.{◌≡◌, List, ℕ};
 ghost use Rattle.format.specs.Write.{outcome};
 ghost use Rattle.module.specs.Finish.{outcome as finishOutcome};
-ghost use Rattle.numbers.specs.Answers.{readU32, readU64, readI32, readI64};
+ghost use Rattle.numbers.specs.Answers.{read_u32, read_u64, read_i32, read_i64};
 ghost use Rattle.thriftbell.specs.Add.{outcome as addOutcome};
 ghost use Rattle.thriftbell.specs.Read.{outcome as readOutcome};
 ghost use Rattle.lines.specs.Answer.{outcome as lineOutcome};
@@ -23,7 +23,7 @@ pub fn tell_written(w: Written, length: &mut usize) -> u32
 }
 
 pub fn tell_u32(r: ReadU32, value: &mut u32, end: &mut usize) -> u32
-    ensures { valued result value.new end.new ≡ readU32 r }
+    ensures { valued result value.new end.new ≡ read_u32 r }
 {
     let ReadU32::Value(v, e) = r else {
         *value = 0;
@@ -36,7 +36,7 @@ pub fn tell_u32(r: ReadU32, value: &mut u32, end: &mut usize) -> u32
 }
 
 pub fn tell_u64(r: ReadU64, value: &mut u64, end: &mut usize) -> u32
-    ensures { valued result value.new end.new ≡ readU64 r }
+    ensures { valued result value.new end.new ≡ read_u64 r }
 {
     let ReadU64::Value(v, e) = r else {
         *value = 0;
@@ -49,7 +49,7 @@ pub fn tell_u64(r: ReadU64, value: &mut u64, end: &mut usize) -> u32
 }
 
 pub fn tell_i32(r: ReadI32, value: &mut i32, end: &mut usize) -> u32
-    ensures { valued result value.new end.new ≡ readI32 r }
+    ensures { valued result value.new end.new ≡ read_i32 r }
 {
     let ReadI32::Value(v, e) = r else {
         *value = 0;
@@ -62,7 +62,7 @@ pub fn tell_i32(r: ReadI32, value: &mut i32, end: &mut usize) -> u32
 }
 
 pub fn tell_i64(r: ReadI64, value: &mut i64, end: &mut usize) -> u32
-    ensures { valued result value.new end.new ≡ readI64 r }
+    ensures { valued result value.new end.new ≡ read_i64 r }
 {
     let ReadI64::Value(v, e) = r else {
         *value = 0;

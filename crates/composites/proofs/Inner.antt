@@ -6,28 +6,28 @@ use lib.ListN.{length, get_or, drop}
 use Rattle.format.specs.Parsed.{fail}
 use Rattle.format.specs.Count.{silent}
 use Rattle.format.specs.Read.{none_read}
-use Rattle.format.specs.Sequence.{Joins, pair-joins}
-use Rattle.format.specs.Dispatch.{Opens, dep-opens}
-use Rattle.lists.specs.Member.{listWords, listBytes}
+use Rattle.format.specs.Sequence.{Joins, pair_joins}
+use Rattle.format.specs.Dispatch.{Opens, dep_opens}
+use Rattle.lists.specs.Member.{list_words, list_bytes}
 use Rattle.lists.specs.declared.Member.TheVariants.{Val}
-use Rattle.composites.specs.Composite.{Kind, func, array, struct, cont, kindWord, kindWords, kindByte, kindBytes, bodyWords, bodyBytes, innerWords, innerBytes}
+use Rattle.composites.specs.Composite.{Kind, func, array, struct, cont, kind_word, kind_words, kind_byte, kind_bytes, body_words, body_bytes, inner_words, inner_bytes}
 
-pub func-read : Joins (listBytes Val).parse (listWords Val).print silent (listBytes Val).parse (listWords Val).print silent (bodyBytes func).parse (bodyWords func).print silent
-func-read = pair-joins (listBytes Val) (listWords Val).print (listBytes Val) (listWords Val).print
+pub func_read : Joins (list_bytes Val).parse (list_words Val).print silent (list_bytes Val).parse (list_words Val).print silent (body_bytes func).parse (body_words func).print silent
+func_read = pair_joins (list_bytes Val) (list_words Val).print (list_bytes Val) (list_words Val).print
 
-pub func-walk : Joins (listWords Val).parse (listBytes Val).print silent (listWords Val).parse (listBytes Val).print silent (bodyWords func).parse (bodyBytes func).print silent
-func-walk = pair-joins (listWords Val) (listBytes Val).print (listWords Val) (listBytes Val).print
+pub func_walk : Joins (list_words Val).parse (list_bytes Val).print silent (list_words Val).parse (list_bytes Val).print silent (body_words func).parse (body_bytes func).print silent
+func_walk = pair_joins (list_words Val) (list_bytes Val).print (list_words Val) (list_bytes Val).print
 
-pub kind-read : (k : Kind) → Opens (kindByte k) (kindWord k ∷ []) (bodyBytes k).parse (bodyWords k).print silent innerBytes.parse innerWords.print silent
-kind-read k = dep-opens kindBytes bodyBytes innerWords.print k (kindByte k) (kindWord k ∷ []) (bodyWords k).print tt refl (λ b. refl)
+pub kind_read : (k : Kind) → Opens (kind_byte k) (kind_word k ∷ []) (body_bytes k).parse (body_words k).print silent inner_bytes.parse inner_words.print silent
+kind_read k = dep_opens kind_bytes body_bytes inner_words.print k (kind_byte k) (kind_word k ∷ []) (body_words k).print tt refl (λ b. refl)
 
-pub kind-walk : (k : Kind) → Opens (kindWord k) (kindByte k ∷ []) (bodyWords k).parse (bodyBytes k).print silent innerWords.parse innerBytes.print silent
-kind-walk k = dep-opens kindWords bodyWords innerBytes.print k (kindWord k) (kindByte k ∷ []) (bodyBytes k).print tt refl (λ b. refl)
+pub kind_walk : (k : Kind) → Opens (kind_word k) (kind_byte k ∷ []) (body_words k).parse (body_bytes k).print silent inner_words.parse inner_bytes.print silent
+kind_walk k = dep_opens kind_words body_words inner_bytes.print k (kind_word k) (kind_byte k ∷ []) (body_bytes k).print tt refl (λ b. refl)
 
 -- and none of them
 module _ (w : List ℕ) (at : ℕ) (h : at < length w) where
-  pub no-kind-byte : (get_or w at 0 ≡ 0x60 → ⊥) → (get_or w at 0 ≡ 0x5E → ⊥) → (get_or w at 0 ≡ 0x5F → ⊥) → (get_or w at 0 ≡ 0x5D → ⊥) → innerBytes.parse (drop at w) ≡ fail
-  no-kind-byte a b c d = rw (none_read kindBytes kindByte (λ k. refl) w at h (elim [ func ↦ a | array ↦ b | struct ↦ c | cont ↦ d ]))
+  pub no_kind_byte : (get_or w at 0 ≡ 0x60 → ⊥) → (get_or w at 0 ≡ 0x5E → ⊥) → (get_or w at 0 ≡ 0x5F → ⊥) → (get_or w at 0 ≡ 0x5D → ⊥) → inner_bytes.parse (drop at w) ≡ fail
+  no_kind_byte a b c d = rw (none_read kind_bytes kind_byte (λ k. refl) w at h (elim [ func ↦ a | array ↦ b | struct ↦ c | cont ↦ d ]))
 
-  pub no-kind-word : (get_or w at 0 ≡ 0 → ⊥) → (get_or w at 0 ≡ 1 → ⊥) → (get_or w at 0 ≡ 2 → ⊥) → (get_or w at 0 ≡ 3 → ⊥) → innerWords.parse (drop at w) ≡ fail
-  no-kind-word a b c d = rw (none_read kindWords kindWord (λ k. refl) w at h (elim [ func ↦ a | array ↦ b | struct ↦ c | cont ↦ d ]))
+  pub no_kind_word : (get_or w at 0 ≡ 0 → ⊥) → (get_or w at 0 ≡ 1 → ⊥) → (get_or w at 0 ≡ 2 → ⊥) → (get_or w at 0 ≡ 3 → ⊥) → inner_words.parse (drop at w) ≡ fail
+  no_kind_word a b c d = rw (none_read kind_words kind_word (λ k. refl) w at h (elim [ func ↦ a | array ↦ b | struct ↦ c | cont ↦ d ]))

@@ -1,16 +1,16 @@
 -- The composite types that have words are those that have bytes (document 01, Records and Types to bytes). Assumes nothing.
-use Rattle.format.specs.Agree.{Agree, pair-agree}
-use Rattle.types.specs.Agree.{field-agree}
-use Rattle.lists.specs.Member.{listWords, listBytes}
+use Rattle.format.specs.Agree.{Agree, pair_agree}
+use Rattle.types.specs.Agree.{field_agree}
+use Rattle.lists.specs.Member.{list_words, list_bytes}
 use Rattle.lists.specs.declared.Member.TheVariants.{Val}
-use Rattle.composites.specs.Composite.{Kind, func, array, struct, cont, bodyWords, bodyBytes, innerWords, innerBytes}
-use Rattle.lists.specs.Agree.{vals-agree, fields-agree}
+use Rattle.composites.specs.Composite.{Kind, func, array, struct, cont, body_words, body_bytes, inner_words, inner_bytes}
+use Rattle.lists.specs.Agree.{vals_agree, fields_agree}
 
-body-agree : (k : Kind) → Agree (bodyWords k) (bodyBytes k)
-body-agree func = pair-agree (listWords Val) (listBytes Val) (listWords Val) (listBytes Val) vals-agree vals-agree
-body-agree array = field-agree
-body-agree struct = fields-agree
-body-agree cont = λ x. (λ h. h, λ h. h)
+body_agree : (k : Kind) → Agree (body_words k) (body_bytes k)
+body_agree func = pair_agree (list_words Val) (list_bytes Val) (list_words Val) (list_bytes Val) vals_agree vals_agree
+body_agree array = field_agree
+body_agree struct = fields_agree
+body_agree cont = λ x. (λ h. h, λ h. h)
 
-pub inner-agree : Agree innerWords innerBytes
-inner-agree i = let a = body-agree i.0 i.1 in (λ h. (tt, a.0 h.1), λ h. (tt, a.1 h.1))
+pub inner_agree : Agree inner_words inner_bytes
+inner_agree i = let a = body_agree i.0 i.1 in (λ h. (tt, a.0 h.1), λ h. (tt, a.1 h.1))

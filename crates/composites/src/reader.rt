@@ -3,7 +3,7 @@ ghost use Rattle.format.specs.Count.{silent};
 ghost use Rattle.format.specs.Walk.{Walks};
 ghost use Rattle.leb128.specs.Formats.{u32, index};
 ghost use Rattle.words.specs.Words.{word};
-ghost use Rattle.composites.specs.Composite.{func, bodyWords, bodyBytes, innerWords, innerBytes};
+ghost use Rattle.composites.specs.Composite.{func, body_words, body_bytes, inner_words, inner_bytes};
 
 use format::{Done, Walk, append_word};
 use lists::{Member, read_list};
@@ -12,7 +12,7 @@ use vals::read_field;
 
 // Parameters and results.
 fn read_func(b: &[u8], at: usize, out: &mut [u32], s: Done) -> Walk
-    ensures { Walks (bodyBytes func) (bodyWords func).print silent b.now at out.old s out.new result }
+    ensures { Walks (body_bytes func) (body_words func).print silent b.now at out.old s out.new result }
 {
     let Walk::Got(p, t) = read_list(Member::Val, b, at, out, s) else {
         return Walk::No;
@@ -31,7 +31,7 @@ fn read_cont(b: &[u8], at: usize, out: &mut [u32], s: Done) -> Walk
 }
 
 pub fn read_inner(b: &[u8], at: usize, out: &mut [u32], s: Done) -> Walk
-    ensures { Walks innerBytes innerWords.print silent b.now at out.old s out.new result }
+    ensures { Walks inner_bytes inner_words.print silent b.now at out.old s out.new result }
 {
     if b.len() <= at {
         return Walk::No;

@@ -3,7 +3,7 @@ ghost use Rattle.format.specs.Count.{silent};
 ghost use Rattle.format.specs.Walk.{Walks};
 ghost use Rattle.leb128.specs.Formats.{u32, index};
 ghost use Rattle.words.specs.Words.{word};
-ghost use Rattle.composites.specs.Composite.{func, bodyWords, bodyBytes, innerWords, innerBytes};
+ghost use Rattle.composites.specs.Composite.{func, body_words, body_bytes, inner_words, inner_bytes};
 
 use format::{Done, Walk, append_byte};
 use lists::{Member, walk_list};
@@ -12,7 +12,7 @@ use vals::walk_field;
 
 // Parameters and results.
 fn walk_func(words: &[u32], at: usize, out: &mut [u8], s: Done) -> Walk
-    ensures { Walks (bodyWords func) (bodyBytes func).print silent words.now at out.old s out.new result }
+    ensures { Walks (body_words func) (body_bytes func).print silent words.now at out.old s out.new result }
 {
     let Walk::Got(p, t) = walk_list(Member::Val, words, at, out, s) else {
         return Walk::No;
@@ -31,7 +31,7 @@ fn walk_cont(words: &[u32], at: usize, out: &mut [u8], s: Done) -> Walk
 }
 
 pub fn walk_inner(words: &[u32], at: usize, out: &mut [u8], s: Done) -> Walk
-    ensures { Walks innerWords innerBytes.print silent words.now at out.old s out.new result }
+    ensures { Walks inner_words inner_bytes.print silent words.now at out.old s out.new result }
 {
     if words.len() <= at {
         return Walk::No;

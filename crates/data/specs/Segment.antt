@@ -12,5 +12,5 @@ Segment S = Target S × S
 
 -- words, behind the 11: mode, memory, offset span, data span
 -- bytes: active in memory 0 is 00 offset, in another memory 02 memory offset, passive 01; then length and bytes
-abbrev pub dataSection : Section (Segment Span) (Segment (List ℕ))
-dataSection = both target content
+abbrev pub data_section : Section (Segment Span) (Segment (List ℕ))
+data_section = both target content

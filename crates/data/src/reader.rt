@@ -2,11 +2,11 @@
 ghost use Rattle.std.specs.Prelude.{◌≤◌, length};
 ghost use Rattle.format.specs.Count.{silent};
 ghost use Rattle.format.specs.Walk.{Walks};
-ghost use Rattle.texts.specs.Judge.{textMost};
+ghost use Rattle.texts.specs.Judge.{text_most};
 ghost use Rattle.words.specs.Words.{word};
 ghost use Rattle.parts.specs.Reading.{Reading};
-ghost use Rattle.data.specs.Target.{memoryIndexBytes, active, target_of, target};
-ghost use Rattle.data.specs.Segment.{dataSection};
+ghost use Rattle.data.specs.Target.{memory_index_bytes, active, target_of, target};
+ghost use Rattle.data.specs.Segment.{data_section};
 
 use format::{Done, Walk, append_word, append_words};
 use numbers::ReadU32;
@@ -14,7 +14,7 @@ use parts::{read_data, read_expr};
 
 // 00 is memory 0, 02 another one.
 fn read_memory(b: &[u8], at: usize, out: &mut [u32], s: Done) -> Walk
-    ensures { Walks memoryIndexBytes word.print silent b.now at out.old s out.new result }
+    ensures { Walks memory_index_bytes word.print silent b.now at out.old s out.new result }
 {
     if b.len() <= at {
         return Walk::No;
@@ -36,7 +36,7 @@ fn read_memory(b: &[u8], at: usize, out: &mut [u32], s: Done) -> Walk
 
 // A memory and the offset.
 fn read_active(b: &[u8], at: usize, out: &mut [u32], s: Done) -> Walk
-    requires { length b.now ≤ textMost }
+    requires { length b.now ≤ text_most }
     ensures { Reading (target_of active) b.now at out.old s out.new result }
 {
     let Walk::Got(p, t) = read_memory(b, at, out, s) else {
@@ -47,7 +47,7 @@ fn read_active(b: &[u8], at: usize, out: &mut [u32], s: Done) -> Walk
 
 // 01 is passive, which has no memory and no offset.
 fn read_target(b: &[u8], at: usize, out: &mut [u32], s: Done) -> Walk
-    requires { length b.now ≤ textMost }
+    requires { length b.now ≤ text_most }
     ensures { Reading target b.now at out.old s out.new result }
 {
     if b.len() <= at {
@@ -62,8 +62,8 @@ fn read_target(b: &[u8], at: usize, out: &mut [u32], s: Done) -> Walk
 
 // Reads the item at a place and appends the words behind the 11.
 pub fn walk_bytes(b: &[u8], at: usize, out: &mut [u32], s: Done) -> Walk
-    requires { length b.now ≤ textMost }
-    ensures { Reading dataSection b.now at out.old s out.new result }
+    requires { length b.now ≤ text_most }
+    ensures { Reading data_section b.now at out.old s out.new result }
 {
     let Walk::Got(p, t) = read_target(b, at, out, s) else {
         return Walk::No;

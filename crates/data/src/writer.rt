@@ -3,8 +3,8 @@ ghost use Rattle.std.specs.Prelude.{◌+◌, ◌≤◌, length};
 ghost use Rattle.format.specs.Count.{Appends, silent};
 ghost use Rattle.format.specs.Walk.{Walks};
 ghost use Rattle.parts.specs.Writing.{Writing};
-ghost use Rattle.data.specs.Target.{memoryIndexBytes, active, noTarget, target_of, target};
-ghost use Rattle.data.specs.Segment.{dataSection};
+ghost use Rattle.data.specs.Target.{memory_index_bytes, active, no_target, target_of, target};
+ghost use Rattle.data.specs.Segment.{data_section};
 
 use format::{Done, Walk, append_byte};
 use numbers::append_u32;
@@ -13,7 +13,7 @@ use texts::{Span, append_expr};
 
 // Memory 0 is 00, another one 02 and its index.
 fn append_memory(m: u32, out: &mut [u8], s: Done) -> Done
-    ensures { Appends (memoryIndexBytes.print m) out.old s out.new result }
+    ensures { Appends (memory_index_bytes.print m) out.old s out.new result }
 {
     if m == 0 {
         return append_byte(0, out, s);
@@ -25,7 +25,7 @@ fn append_memory(m: u32, out: &mut [u8], s: Done) -> Done
 // Behind the mode: no memory and no offset.
 fn walk_passive(words: &[u32], at: usize, out: &mut [u8], s: Done) -> Walk
     requires { at + 3 ≤ length words.now }
-    ensures { Walks noTarget.words noTarget.bytes.print silent words.now at out.old s out.new result }
+    ensures { Walks no_target.words no_target.bytes.print silent words.now at out.old s out.new result }
 {
     if words[at] != 0 {
         return Walk::No;
@@ -71,7 +71,7 @@ fn walk_target(words: &[u32], at: usize, text: &[u8], out: &mut [u8], s: Done) -
 
 // Reads the words behind the 11 and appends the item.
 pub fn walk_words(words: &[u32], at: usize, text: &[u8], out: &mut [u8], s: Done) -> Walk
-    ensures { Writing dataSection text.now words.now at out.old s out.new result }
+    ensures { Writing data_section text.now words.now at out.old s out.new result }
 {
     let Walk::Got(p, t) = walk_target(words, at, text, out, s) else {
         return Walk::No;

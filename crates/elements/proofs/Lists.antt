@@ -5,9 +5,9 @@ use mathlib.Core.List.{List, [], ◌∷◌}
 use Prim.Native.Nat.{ℕ, ◌+◌, ◌<◌, ◌≤◌}
 use native.Mathlib.Omega.{arith}
 use lib.ListN.{length, get_or, length-append}
-use Rattle.format.specs.Count.{Appends, silent, adds-seq}
+use Rattle.format.specs.Count.{Appends, silent, adds_seq}
 use Rattle.format.specs.Lists.{many}
-use Rattle.format.specs.Walk.{Walks, nothing_left, nothing-there}
+use Rattle.format.specs.Walk.{Walks, nothing_left, nothing_there}
 use Rattle.format.specs.declared.Done.{Done}
 use Rattle.format.specs.declared.Walk.{Walk}
 use Rattle.format.specs.declared.Walk.TheVariants as walks
@@ -17,64 +17,64 @@ use Rattle.exprs.specs.Laws.{expr}
 use Rattle.words.specs.Words.{word}
 use Rattle.texts.specs.Spans.{span}
 use Rattle.texts.specs.declared.Span.{Span}
-use Rattle.types.specs.Words.{refWords}
-use Rattle.types.specs.Bytes.{refBytes}
+use Rattle.types.specs.Words.{ref_words}
+use Rattle.types.specs.Bytes.{ref_bytes}
 use Rattle.parts.specs.Text.{expression}
 use Rattle.parts.specs.Both.{both}
 use Rattle.parts.specs.Listed.{listed}
-use Rattle.parts.specs.Reading.{Reading, part-missing, part-follows, behind-reads, words-before}
-use Rattle.elements.specs.Members.{indices, functions, refType, expressions, funcrefs, members}
-use Rattle.modes.proofs.Tags.{tag-not, stands}
+use Rattle.parts.specs.Reading.{Reading, part_missing, part_follows, behind_reads, words_before}
+use Rattle.elements.specs.Members.{indices, functions, ref_type, expressions, funcrefs, members}
+use Rattle.modes.proofs.Tags.{tag_not, stands}
 
 -- an expression takes a byte at least, and its span a word
-expr-long : {e : List ℕ} → Expr e → 0 < length e
-expr-long stop = omega arith
-expr-long (more a e i x) = omega (arith, length-append a e, expr-long x)
+expr_long : {e : List ℕ} → Expr e → 0 < length e
+expr_long stop = omega arith
+expr_long (more a e i x) = omega (arith, length-append a e, expr_long x)
 
-pub byte-each : (x : List ℕ) → expr.Ok x → 0 < length (expr.print x)
-byte-each x ok = expr-long ok
+pub byte_each : (x : List ℕ) → expr.Ok x → 0 < length (expr.print x)
+byte_each x ok = expr_long ok
 
 pub word_each : (v : Span) → span.Ok v → 0 < length (span.print v)
 word_each v ok = omega arith
 
 module _ (e : Bool) {said k : Bool} {b : List ℕ} {at : ℕ} {old : List ℕ} {s : Done} {new : List ℕ} {r : Walk} where
-  pub as-members : said ≡ k → Reading (members e k) b at old s new r → Reading (members e said) b at old s new r
-  as-members p x = subst (λ (i : Bool). Reading (members e i) b at old s new r) (sym p) x
+  pub as_members : said ≡ k → Reading (members e k) b at old s new r → Reading (members e said) b at old s new r
+  as_members p x = subst (λ (i : Bool). Reading (members e i) b at old s new r) (sym p) x
 
 module _ {said : Bool} {b : List ℕ} {at : ℕ} {old : List ℕ} {s : Done} {new : List ℕ} where
   module _ (t : said ≡ true) where
     -- 00 says that they are functions
-    pub functions-end : length b ≤ at → Reading (members false said) b at old s new walks.No
-    functions-end h = as-members false t (record { reads = λ k. nothing_left h refl })
+    pub functions_end : length b ≤ at → Reading (members false said) b at old s new walks.No
+    functions_end h = as_members false t (record { reads = λ k. nothing_left h refl })
 
     module _ (h : at < length b) where
-      pub functions-not : (get_or b at 0 ≡ 0 → ⊥) → Reading (members false said) b at old s new walks.No
-      functions-not n = as-members false t (record { reads = λ k. nothing-there (tag-not 0x00 (many u32 u32) b at h n) })
+      pub functions_not : (get_or b at 0 ≡ 0 → ⊥) → Reading (members false said) b at old s new walks.No
+      functions_not n = as_members false t (record { reads = λ k. nothing_there (tag_not 0x00 (many u32 u32) b at h n) })
 
-      pub said-functions : {o₁ : List ℕ} {s₁ : Done} {cur : List ℕ} {u : Done} {r : Walk} → get_or b at 0 ≡ 0 → Appends (0 ∷ []) old s o₁ s₁ → Appends (0 ∷ 0 ∷ []) o₁ s₁ cur u
+      pub said_functions : {o₁ : List ℕ} {s₁ : Done} {cur : List ℕ} {u : Done} {r : Walk} → get_or b at 0 ≡ 0 → Appends (0 ∷ []) old s o₁ s₁ → Appends (0 ∷ 0 ∷ []) o₁ s₁ cur u
           → Walks (many u32 u32) (many word word).print silent b (at + 1) cur u new r → Reading (members false said) b at old s new r
-      said-functions {r = r} e a c x =
-          as-members false t
-          (behind-reads 0x00 functions b at old s new r (stands 0x00 b at h e)
-          (words-before indices functions (0 ∷ 0 ∷ 0 ∷ []) (λ s. refl) (λ n x. refl) (adds-seq a c) (record { reads = λ k. x })))
+      said_functions {r = r} e a c x =
+          as_members false t
+          (behind_reads 0x00 functions b at old s new r (stands 0x00 b at h e)
+          (words_before indices functions (0 ∷ 0 ∷ 0 ∷ []) (λ s. refl) (λ n x. refl) (adds_seq a c) (record { reads = λ k. x })))
 
     -- a type, and expressions
     module _ {o₁ : List ℕ} {s₁ : Done} (a : Appends (1 ∷ []) old s o₁ s₁) where
-      typed : {r' : Walk} → Reading (both refType (listed expression)) b at o₁ s₁ new r' → Reading (members true said) b at old s new r'
-      typed x = as-members true t (words-before (both refType (listed expression)) expressions (1 ∷ []) (λ s. refl) (λ n y. refl) a x)
+      typed : {r' : Walk} → Reading (both ref_type (listed expression)) b at o₁ s₁ new r' → Reading (members true said) b at old s new r'
+      typed x = as_members true t (words_before (both ref_type (listed expression)) expressions (1 ∷ []) (λ s. refl) (λ n y. refl) a x)
 
-      pub type-not-read : {r : Walk} → Walks refBytes refWords.print silent b at o₁ s₁ new r → r ≡ walks.No → Reading (members true said) b at old s new walks.No
-      type-not-read x e = typed (part-missing refType (listed expression) (record { reads = λ k. x }) e)
+      pub type_not_read : {r : Walk} → Walks ref_bytes ref_words.print silent b at o₁ s₁ new r → r ≡ walks.No → Reading (members true said) b at old s new walks.No
+      type_not_read x e = typed (part_missing ref_type (listed expression) (record { reads = λ k. x }) e)
 
-      pub typed-reads : {cur : List ℕ} {p : ℕ} {u : Done} {r r' : Walk} → Walks refBytes refWords.print silent b at o₁ s₁ cur r → r ≡ walks.Got p u
+      pub typed_reads : {cur : List ℕ} {p : ℕ} {u : Done} {r r' : Walk} → Walks ref_bytes ref_words.print silent b at o₁ s₁ cur r → r ≡ walks.Got p u
           → Reading (listed expression) b p cur u new r' → Reading (members true said) b at old s new r'
-      typed-reads x e y = typed (part-follows refType (listed expression) (record { reads = λ k. x }) e y)
+      typed_reads x e y = typed (part_follows ref_type (listed expression) (record { reads = λ k. x }) e y)
 
   -- neither is said
   module _ (t : said ≡ false) {o₁ : List ℕ} {s₁ : Done} {cur : List ℕ} {u : Done} {r : Walk} where
-    pub bare-functions : Appends (0 ∷ []) old s o₁ s₁ → Appends (0 ∷ 0 ∷ []) o₁ s₁ cur u → Walks (many u32 u32) (many word word).print silent b at cur u new r
+    pub bare_functions : Appends (0 ∷ []) old s o₁ s₁ → Appends (0 ∷ 0 ∷ []) o₁ s₁ cur u → Walks (many u32 u32) (many word word).print silent b at cur u new r
         → Reading (members false said) b at old s new r
-    bare-functions a c x = as-members false t (words-before indices functions (0 ∷ 0 ∷ 0 ∷ []) (λ s. refl) (λ n x. refl) (adds-seq a c) (record { reads = λ k. x }))
+    bare_functions a c x = as_members false t (words_before indices functions (0 ∷ 0 ∷ 0 ∷ []) (λ s. refl) (λ n x. refl) (adds_seq a c) (record { reads = λ k. x }))
 
-    pub funcrefs-read : Appends (1 ∷ []) old s o₁ s₁ → Appends (16 ∷ 0 ∷ []) o₁ s₁ cur u → Reading (listed expression) b at cur u new r → Reading (members true said) b at old s new r
-    funcrefs-read a c x = as-members true t (words-before (listed expression) funcrefs (1 ∷ 16 ∷ 0 ∷ []) (λ s. refl) (λ n y. refl) (adds-seq a c) x)
+    pub funcrefs_read : Appends (1 ∷ []) old s o₁ s₁ → Appends (16 ∷ 0 ∷ []) o₁ s₁ cur u → Reading (listed expression) b at cur u new r → Reading (members true said) b at old s new r
+    funcrefs_read a c x = as_members true t (words_before (listed expression) funcrefs (1 ∷ 16 ∷ 0 ∷ []) (λ s. refl) (λ n y. refl) (adds_seq a c) x)

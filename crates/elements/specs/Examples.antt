@@ -1,8 +1,8 @@
 -- Element segments as words and as bytes, by computation: each of the eight flags, and the exception. Assumes nothing.
 use Rattle.std.specs.Prelude.{◌≡◌, refl, true, false, List, [], ◌∷◌, ℕ}
-use Rattle.leb128.specs.Leb.{leb, lebBy}
+use Rattle.leb128.specs.Leb.{leb, leb_by}
 use Rattle.texts.specs.declared.Span.{Span}
-use Rattle.types.specs.Bytes.{nullOf}
+use Rattle.types.specs.Bytes.{null_of}
 use Rattle.types.specs.declared.AbstractHeapType.TheVariants.{Extern}
 use Rattle.types.specs.declared.HeapType.TheVariants.{Abstract}
 use Rattle.types.specs.declared.RefType.{RefType}
@@ -13,7 +13,7 @@ use Rattle.elements.specs.Exception.{item_of, exception}
 use Rattle.modes.specs.declared.Mode.TheVariants.{Active, Passive, ActiveTable, Declared}
 
 abbrev externref : RefType
-externref = nullOf (Abstract false Extern)
+externref = null_of (Abstract false Extern)
 
 -- i32.const 42 and end; ref.func 1 and end
 abbrev offset : List ℕ
@@ -43,12 +43,12 @@ pub items : (item (Active, (offset, (false, 7 ∷ []))) ≡ 0x00 ∷ 0x41 ∷ 0x
     × (item (Passive, (tt, (true, (funcref, function ∷ [])))) ≡ 0x05 ∷ 0x70 ∷ 0x01 ∷ 0xD2 ∷ 0x01 ∷ 0x0B ∷ [])
     × (item (ActiveTable, ((5, offset), (true, (funcref, [])))) ≡ 0x06 ∷ 0x05 ∷ 0x41 ∷ 0x2A ∷ 0x0B ∷ 0x70 ∷ 0x00 ∷ [])
     × (item (Declared, (tt, (true, (externref, [])))) ≡ 0x07 ∷ 0x6F ∷ 0x00 ∷ [])
-unfolding leb lebBy
+unfolding leb leb_by
 items = (refl, refl, refl, refl, refl, refl, refl, refl)
 
 -- document 01: externref expressions without table at 42, none listed, are 06 00 41 2A 0B 6F 00, and come back with table 0 given; funcref does not
 pub excepted : (item (Active, (offset, (true, (externref, [])))) ≡ 0x06 ∷ 0x00 ∷ 0x41 ∷ 0x2A ∷ 0x0B ∷ 0x6F ∷ 0x00 ∷ [])
     × (exception {S = List ℕ} (Active, (offset, (true, (externref, [])))) ≡ (ActiveTable, ((0, offset), (true, (externref, [])))))
     × (exception {S = List ℕ} (Active, (offset, (true, (funcref, [])))) ≡ (Active, (offset, (true, (funcref, [])))))
-unfolding leb lebBy
+unfolding leb leb_by
 excepted = (refl, refl, refl)

@@ -18,18 +18,18 @@ use Rattle.modes.specs.declared.Mode.TheVariants.{Active, Passive, ActiveTable, 
 abbrev pub Flag : Type 0
 Flag = Mode × Bool
 
-abbrev pub flagOf : Mode → Bool → ℕ
-flagOf Active false = 0
-flagOf Passive false = 1
-flagOf ActiveTable false = 2
-flagOf Declared false = 3
-flagOf Active true = 4
-flagOf Passive true = 5
-flagOf ActiveTable true = 6
-flagOf Declared true = 7
+abbrev pub flag_of : Mode → Bool → ℕ
+flag_of Active false = 0
+flag_of Passive false = 1
+flag_of ActiveTable false = 2
+flag_of Declared false = 3
+flag_of Active true = 4
+flag_of Passive true = 5
+flag_of ActiveTable true = 6
+flag_of Declared true = 7
 
 abbrev pub code : Flag → ℕ
-code f = flagOf f.0 f.1
+code f = flag_of f.0 f.1
 
 abbrev pub flags : List Flag
 flags =
@@ -38,7 +38,7 @@ flags =
 pub flag_small : (f : Flag) → code f < 8
 flag_small f = go f.0 f.1
   where
-    go : (m : Mode) (e : Bool) → flagOf m e < 8
+    go : (m : Mode) (e : Bool) → flag_of m e < 8
     go Active false = lit< tt
     go Passive false = lit< tt
     go ActiveTable false = lit< tt
@@ -48,10 +48,10 @@ flag_small f = go f.0 f.1
     go ActiveTable true = lit< tt
     go Declared true = lit< tt
 
-pub flag-full : (f : Flag) → find code flags (code f) ≡ some f
-flag-full f = go f.0 f.1
+pub flag_full : (f : Flag) → find code flags (code f) ≡ some f
+flag_full f = go f.0 f.1
   where
-    go : (m : Mode) (e : Bool) → find code flags (flagOf m e) ≡ some (m, e)
+    go : (m : Mode) (e : Bool) → find code flags (flag_of m e) ≡ some (m, e)
     go Active false = refl
     go Passive false = refl
     go ActiveTable false = refl
@@ -61,24 +61,24 @@ flag-full f = go f.0 f.1
     go ActiveTable true = refl
     go Declared true = refl
 
-abbrev pub flagByte : Format Flag
-flagByte = table 8 code flags flag_small flag-full
+abbrev pub flag_byte : Format Flag
+flag_byte = table 8 code flags flag_small flag_full
 
 -- the type is said, as 00 for functions, but for flags 0 and 4
-abbrev pub isTyped : Mode → Bool
-isTyped Active = false
-isTyped Passive = true
-isTyped ActiveTable = true
-isTyped Declared = true
+abbrev pub is_typed : Mode → Bool
+is_typed Active = false
+is_typed Passive = true
+is_typed ActiveTable = true
+is_typed Declared = true
 
 abbrev pub BodyOf : Flag → Type 0 → Type 0
-BodyOf f S = PlaceOf f.0 S × MembersOf f.1 (isTyped f.0) S
+BodyOf f S = PlaceOf f.0 S × MembersOf f.1 (is_typed f.0) S
 
 abbrev pub Item : Type 0 → Type 0
 Item S = (f : Flag) × BodyOf f S
 
 abbrev pub body : (f : Flag) → Section (BodyOf f Span) (BodyOf f (List ℕ))
-body f = both (place f.0) (members f.1 (isTyped f.0))
+body f = both (place f.0) (members f.1 (is_typed f.0))
 
 abbrev pub bytes : Format (Item (List ℕ))
-bytes = dep flagByte (λ f. (body f).bytes)
+bytes = dep flag_byte (λ f. (body f).bytes)

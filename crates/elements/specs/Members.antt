@@ -2,14 +2,14 @@
 -- byte 00, for 5, 6, 7 the type; then the list). Assumes nothing.
 use Rattle.std.specs.Prelude.{Bool, true, false, List, ℕ}
 use Rattle.format.specs.Lists.{many}
-use Rattle.format.specs.Agree.{many-agree}
+use Rattle.format.specs.Agree.{many_agree}
 use Rattle.leb128.specs.Formats.{u32}
 use Rattle.words.specs.Words.{word}
 use Rattle.texts.specs.Section.{Section, textless, tagged}
 use Rattle.texts.specs.declared.Span.{Span}
-use Rattle.types.specs.Bytes.{nullOf, refBytes}
-use Rattle.types.specs.Words.{refWords}
-use Rattle.types.specs.Agree.{ref-agree}
+use Rattle.types.specs.Bytes.{null_of, ref_bytes}
+use Rattle.types.specs.Words.{ref_words}
+use Rattle.types.specs.Agree.{ref_agree}
 use Rattle.types.specs.declared.AbstractHeapType.TheVariants.{Func}
 use Rattle.types.specs.declared.HeapType.TheVariants.{Abstract}
 use Rattle.types.specs.declared.RefType.{RefType}
@@ -19,7 +19,7 @@ use Rattle.parts.specs.Listed.{listed}
 
 -- nullable unshared func, whose words are 16 and 0
 abbrev pub funcref : RefType
-funcref = nullOf (Abstract false Func)
+funcref = null_of (Abstract false Func)
 
 -- expressions or functions; with their type in the bytes or not
 abbrev pub MembersOf : Bool → Bool → Type 0 → Type 0
@@ -29,17 +29,17 @@ MembersOf true true S = RefType × List S
 
 -- the list of indices
 abbrev pub indices : Section (List ℕ) (List ℕ)
-indices = textless (many word word) (many u32 u32) (many-agree word u32 word u32 (λ x. (λ h. h, λ h. h)) (λ x. (λ h. h, λ h. h)))
+indices = textless (many word word) (many u32 u32) (many_agree word u32 word u32 (λ x. (λ h. h, λ h. h)) (λ x. (λ h. h, λ h. h)))
 
 abbrev pub functions : Section (List ℕ) (List ℕ)
 functions = tagged 0 (tagged 0 (tagged 0 indices))
 
 -- the reference type
-abbrev pub refType : Section RefType RefType
-refType = textless refWords refBytes ref-agree
+abbrev pub ref_type : Section RefType RefType
+ref_type = textless ref_words ref_bytes ref_agree
 
 abbrev pub expressions : Section (RefType × List Span) (RefType × List (List ℕ))
-expressions = tagged 1 (both refType (listed expression))
+expressions = tagged 1 (both ref_type (listed expression))
 
 -- those of nullable unshared func, which the bytes need not say
 abbrev pub funcrefs : Section (List Span) (List (List ℕ))

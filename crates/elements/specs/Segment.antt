@@ -7,9 +7,9 @@ use Rattle.format.specs.Lists.{many}
 use Rattle.words.specs.Words.{word}
 use Rattle.texts.specs.Spans.{span}
 use Rattle.texts.specs.declared.Span.{Span}
-use Rattle.types.specs.Words.{refWords}
+use Rattle.types.specs.Words.{ref_words}
 use Rattle.types.specs.declared.RefType.{RefType}
-use Rattle.modes.specs.Mode.{modeWords, PlaceOf, place}
+use Rattle.modes.specs.Mode.{mode_words, PlaceOf, place}
 use Rattle.modes.specs.declared.Mode.{Mode}
 
 -- kind 0: the indices of functions; kind 1: a reference type and expressions
@@ -25,12 +25,12 @@ Segment S = (m : Mode) × (PlaceOf m S × Elements S)
 
 -- ---- words, behind the 9
 
-abbrev pub elementsWordsOf : (e : Bool) → Format (ElementsOf e Span)
-elementsWordsOf false = tag 0 (tag 0 (many word word))
-elementsWordsOf true = pair refWords (many word span)
+abbrev pub elements_words_of : (e : Bool) → Format (ElementsOf e Span)
+elements_words_of false = tag 0 (tag 0 (many word word))
+elements_words_of true = pair ref_words (many word span)
 
-abbrev pub elementsWords : Format (Elements Span)
-elementsWords = dep flag elementsWordsOf
+abbrev pub elements_words : Format (Elements Span)
+elements_words = dep flag elements_words_of
 
 abbrev pub words : Format (Segment Span)
-words = dep modeWords (λ m. pair (place m).words elementsWords)
+words = dep mode_words (λ m. pair (place m).words elements_words)

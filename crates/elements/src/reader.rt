@@ -1,13 +1,13 @@
 // Reading element segments: what begins at a place of some bytes, and its words.
 ghost use Rattle.std.specs.Prelude.{◌≡◌, false, true, ◌≤◌, leb, length};
-ghost use Rattle.texts.specs.Judge.{textMost};
+ghost use Rattle.texts.specs.Judge.{text_most};
 ghost use Rattle.parts.specs.Text.{expression};
 ghost use Rattle.parts.specs.Listed.{listed};
 ghost use Rattle.parts.specs.Reading.{Reading};
 ghost use Rattle.parts.specs.ListWalks.{MembersRead};
 ghost use Rattle.elements.specs.Members.{members};
-ghost use Rattle.elements.specs.Item.{flagOf, isTyped};
-ghost use Rattle.elements.specs.Section.{elementSection};
+ghost use Rattle.elements.specs.Item.{flag_of, is_typed};
+ghost use Rattle.elements.specs.Section.{element_section};
 
 use format::{Done, Walk, append_word};
 use lists::{Member, read_list};
@@ -20,7 +20,7 @@ use types::RefType;
 // The mode of a flag; 4 and more list expressions.
 fn flag_mode(f: u8) -> Mode
     requires { f ≤ 7 }
-    ensures { flagOf result (leb 4 f) ≡ f }
+    ensures { flag_of result (leb 4 f) ≡ f }
 {
     match f {
         0 => Mode::Active,
@@ -54,7 +54,7 @@ fn read_functions(said: bool, b: &[u8], at: usize, out: &mut [u32], s: Done) -> 
 
 // n expressions.
 fn read_members(n: usize, b: &[u8], at: usize, out: &mut [u32], s: Done) -> Walk
-    requires { (at ≤ length b.now) × (length b.now ≤ textMost) }
+    requires { (at ≤ length b.now) × (length b.now ≤ text_most) }
     ensures { MembersRead expression b.now at n out.old s out.new result }
 {
     let mut t = s;
@@ -73,7 +73,7 @@ fn read_members(n: usize, b: &[u8], at: usize, out: &mut [u32], s: Done) -> Walk
 
 // A count larger than what is left is answered at once, since each member takes a byte.
 fn read_exprs(b: &[u8], at: usize, out: &mut [u32], s: Done) -> Walk
-    requires { length b.now ≤ textMost }
+    requires { length b.now ≤ text_most }
     ensures { Reading (listed expression) b.now at out.old s out.new result }
 {
     let ReadU32::Value(n, p) = numbers::decode_u32(b, at) else {
@@ -88,7 +88,7 @@ fn read_exprs(b: &[u8], at: usize, out: &mut [u32], s: Done) -> Walk
 
 // The type, which is nullable unshared func where it is not said, and the list of expressions.
 fn read_expressions(said: bool, b: &[u8], at: usize, out: &mut [u32], s: Done) -> Walk
-    requires { length b.now ≤ textMost }
+    requires { length b.now ≤ text_most }
     ensures { Reading (members true said) b.now at out.old s out.new result }
 {
     let t = append_word(1, out, s);
@@ -104,7 +104,7 @@ fn read_expressions(said: bool, b: &[u8], at: usize, out: &mut [u32], s: Done) -
 
 // Whether a flag of this mode says the type, as 00 for functions.
 fn is_typed(m: Mode) -> bool
-    ensures { result ≡ isTyped m }
+    ensures { result ≡ is_typed m }
 {
     match m {
         Mode::Active => false,
@@ -116,8 +116,8 @@ fn is_typed(m: Mode) -> bool
 
 // Reads the item at a place and appends the words behind the 9.
 pub fn walk_bytes(b: &[u8], at: usize, out: &mut [u32], s: Done) -> Walk
-    requires { length b.now ≤ textMost }
-    ensures { Reading elementSection b.now at out.old s out.new result }
+    requires { length b.now ≤ text_most }
+    ensures { Reading element_section b.now at out.old s out.new result }
 {
     if b.len() <= at {
         return Walk::No;

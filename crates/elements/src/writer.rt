@@ -2,15 +2,15 @@
 ghost use Rattle.std.specs.Prelude.{◌≡◌, false, true, ◌≤◌, length};
 ghost use Rattle.format.specs.Count.{Appends, silent};
 ghost use Rattle.format.specs.Walk.{Walks};
-ghost use Rattle.types.specs.Words.{refWords};
+ghost use Rattle.types.specs.Words.{ref_words};
 ghost use Rattle.parts.specs.Text.{expression};
 ghost use Rattle.parts.specs.Listed.{listed};
 ghost use Rattle.parts.specs.Writing.{Writing};
 ghost use Rattle.parts.specs.ListWalks.{MembersWritten};
-ghost use Rattle.elements.specs.Segment.{elementsWordsOf, elementsWords};
-ghost use Rattle.elements.specs.Item.{flagOf};
-ghost use Rattle.elements.specs.Written.{isOther, isSaid, head_of, type_of, functionsOf, expressionsOf, expressionsLow, elementsOf, elementsLow};
-ghost use Rattle.elements.specs.Section.{elementSection};
+ghost use Rattle.elements.specs.Segment.{elements_words_of, elements_words};
+ghost use Rattle.elements.specs.Item.{flag_of};
+ghost use Rattle.elements.specs.Written.{is_other, is_said, head_of, type_of, functions_of, expressions_of, expressions_low, elements_of, elements_low};
+ghost use Rattle.elements.specs.Section.{element_section};
 
 use format::{Done, Walk, append_byte};
 use lists::{Member, walk_list};
@@ -23,7 +23,7 @@ use words::walk_unused;
 
 // Whether expressions without a table are of another type than nullable unshared func, by its word h: only that type need not be said.
 fn is_other(m: Mode, expressions: bool, h: u32) -> bool
-    ensures { result ≡ isOther m expressions h }
+    ensures { result ≡ is_other m expressions h }
 {
     match m {
         Mode::Active => {
@@ -40,7 +40,7 @@ fn is_other(m: Mode, expressions: bool, h: u32) -> bool
 
 // The flag of a segment whose table, if it is active, is the one of its record.
 fn flag(m: Mode, expressions: bool) -> u8
-    ensures { result ≡ flagOf m expressions }
+    ensures { result ≡ flag_of m expressions }
 {
     if expressions {
         return match m {
@@ -60,7 +60,7 @@ fn flag(m: Mode, expressions: bool) -> u8
 
 // Whether the type is said, as 00 for functions.
 fn is_said(other: bool, m: Mode) -> bool
-    ensures { result ≡ isSaid other m }
+    ensures { result ≡ is_said other m }
 {
     match m {
         Mode::Active => other,
@@ -83,7 +83,7 @@ fn append_flag(other: bool, m: Mode, expressions: bool, out: &mut [u8], s: Done)
 
 // Two unused words, 00 where the kind is said, and the list of indices.
 fn walk_functions(said: bool, words: &[u32], at: usize, out: &mut [u8], s: Done) -> Walk
-    ensures { Walks (elementsWordsOf false) (functionsOf said) silent words.now at out.old s out.new result }
+    ensures { Walks (elements_words_of false) (functions_of said) silent words.now at out.old s out.new result }
 {
     let Walk::Got(p, t) = walk_unused(words, at, s) else {
         return Walk::No;
@@ -97,7 +97,7 @@ fn walk_functions(said: bool, words: &[u32], at: usize, out: &mut [u8], s: Done)
 
 // The reference type, which is written where it is said.
 fn walk_type(said: bool, words: &[u32], at: usize, out: &mut [u8], s: Done) -> Walk
-    ensures { Walks refWords (type_of said) silent words.now at out.old s out.new result }
+    ensures { Walks ref_words (type_of said) silent words.now at out.old s out.new result }
 {
     if said {
         return walk_ref(words, at, out, s);
@@ -157,7 +157,7 @@ fn walk_expressions(
     out: &mut [u8],
     s: Done,
 ) -> Walk
-    ensures { Walks (elementsWordsOf true) (expressionsOf said text.now) (expressionsLow text.now) words.now at out.old s out.new result }
+    ensures { Walks (elements_words_of true) (expressions_of said text.now) (expressions_low text.now) words.now at out.old s out.new result }
 {
     let Walk::Got(p, t) = walk_type(said, words, at, out, s) else {
         return Walk::No;
@@ -167,7 +167,7 @@ fn walk_expressions(
 
 // The kind, and functions or expressions.
 fn walk_elements(said: bool, words: &[u32], at: usize, text: &[u8], out: &mut [u8], s: Done) -> Walk
-    ensures { Walks elementsWords (elementsOf said text.now) (elementsLow text.now) words.now at out.old s out.new result }
+    ensures { Walks elements_words (elements_of said text.now) (elements_low text.now) words.now at out.old s out.new result }
 {
     if words.len() <= at {
         return Walk::No;
@@ -181,7 +181,7 @@ fn walk_elements(said: bool, words: &[u32], at: usize, text: &[u8], out: &mut [u
 
 // Reads the words behind the 9 and appends the item. The flag depends on the kind and the type, which stand behind the offset.
 pub fn walk_words(words: &[u32], at: usize, text: &[u8], out: &mut [u8], s: Done) -> Walk
-    ensures { Writing elementSection text.now words.now at out.old s out.new result }
+    ensures { Writing element_section text.now words.now at out.old s out.new result }
 {
     let ModeRead::Is(m) = find_mode(words, at) else {
         return Walk::No;

@@ -10,7 +10,7 @@ use lib.IntN.{ℤ}
 use lib.ListN.{length, take, drop, get_or, set, length-append, length-drop, length-set, take-append-drop}
 use lib.Seq.{drop-append-le, drop-cons, length-take-le, set-append_seam}
 use borrow.Rule.Slice.PartMut.{put_mid, mid_of, put_same}
-use Rattle.format.specs.Write.{Writes, writes, writes-not, told-length, told-short, over, within, same-long}
+use Rattle.format.specs.Write.{Writes, writes, writes_not, told_length, told_short, over, within, same_long}
 use Rattle.format.specs.declared.Written.{Written}
 use Rattle.format.specs.declared.Written.TheVariants.{Length, Short}
 use Rattle.leb128.specs.Leb.{sleb}
@@ -26,7 +26,7 @@ behind k n l h m =
 made : (op : ℕ) (b : List ℕ) (x : ℕ) (l zs : List ℕ) (n k : ℕ) → n + 1 ≡ length l → Writes b (mid_of 1 n (x ∷ l)) zs (Length k)
     → set (set (put_mid 1 n (x ∷ l) zs) 0 op) (k + 1) 0x0B ≡ over (op ∷ (b ++ (0x0B ∷ []))) (x ∷ l)
 made op b x l zs n k h w =
-    let (e, r, z) = told-length w refl in
+    let (e, r, z) = told_length w refl in
     let m : length b ≤ n = omega (arith, length-take-le n l (omega arith)) in
     let t : zs ++ drop n l ≡ b ++ drop (length b) l =
     ap (λ (q : List ℕ). q ++ drop n l) z ∙ append_assoc b (drop (length b) (take n l)) (drop n l) ∙ ap (λ (q : List ℕ). b ++ q) (behind (length b) n l m (omega arith)) in
@@ -43,62 +43,62 @@ made op b x l zs n k h w =
 abbrev around : ℕ → List ℕ → List ℕ
 around op b = op ∷ (b ++ (0x0B ∷ []))
 
-around-long : (op : ℕ) (b : List ℕ) → length (around op b) ≡ length b + 2
-around-long op b = omega (arith, length-append b (0x0B ∷ []))
+around_long : (op : ℕ) (b : List ℕ) → length (around op b) ≡ length b + 2
+around_long op b = omega (arith, length-append b (0x0B ∷ []))
 
-mid-long : (n : ℕ) (xs : List ℕ) → 2 ≤ length xs → n ≡ length xs - 1 - 1 → length (mid_of 1 n xs) ≡ n
-mid-long n xs h e = length-take-le n (drop 1 xs) (omega (arith, length-drop 1 xs))
+mid_long : (n : ℕ) (xs : List ℕ) → 2 ≤ length xs → n ≡ length xs - 1 - 1 → length (mid_of 1 n xs) ≡ n
+mid_long n xs h e = length-take-le n (drop 1 xs) (omega (arith, length-drop 1 xs))
 
-made-too : (op : ℕ) (b xs : List ℕ) (n k : ℕ) {zs : List ℕ} → 2 ≤ length xs → n ≡ length xs - 1 - 1 → Writes b (mid_of 1 n xs) zs (Length k)
+made_too : (op : ℕ) (b xs : List ℕ) (n k : ℕ) {zs : List ℕ} → 2 ≤ length xs → n ≡ length xs - 1 - 1 → Writes b (mid_of 1 n xs) zs (Length k)
     → Writes (around op b) xs (set (set (put_mid 1 n xs zs) 0 op) (k + 1) 0x0B) (Length (k + 2))
-made-too op b [] n k h e w = absurd (omega arith)
-made-too op b (x ∷ l) n k {zs} h e w =
-    let (p, r, _) = told-length w refl in
-    let q = around-long op b in
-    writes (omega (arith, mid-long n (x ∷ l) h e)) (omega arith) (made op b x l zs n k (omega arith) w)
+made_too op b [] n k h e w = absurd (omega arith)
+made_too op b (x ∷ l) n k {zs} h e w =
+    let (p, r, _) = told_length w refl in
+    let q = around_long op b in
+    writes (omega (arith, mid_long n (x ∷ l) h e)) (omega arith) (made op b x l zs n k (omega arith) w)
 
-made-not : (op : ℕ) (b xs : List ℕ) (n : ℕ) {zs : List ℕ} → 2 ≤ length xs → n ≡ length xs - 1 - 1 → Writes b (mid_of 1 n xs) zs Short
+made_not : (op : ℕ) (b xs : List ℕ) (n : ℕ) {zs : List ℕ} → 2 ≤ length xs → n ≡ length xs - 1 - 1 → Writes b (mid_of 1 n xs) zs Short
     → Writes (around op b) xs (put_mid 1 n xs zs) Short
-made-not op b xs n {zs} h e w =
-    let (p, z) = told-short w refl in
+made_not op b xs n {zs} h e w =
+    let (p, z) = told_short w refl in
     let same : xs ≡ put_mid 1 n xs zs = sym (ap (put_mid 1 n xs) z ∙ put_same 1 n xs) in
-    subst (λ (ys : List ℕ). Writes (around op b) xs ys Short) same (writes-not (omega (arith, around-long op b, mid-long n xs h e)))
+    subst (λ (ys : List ℕ). Writes (around op b) xs ys Short) same (writes_not (omega (arith, around_long op b, mid_long n xs h e)))
 
 -- ---- a constant, as it is written
 
-pub const-short : (op : ℕ) (v : ℤ) (xs : List ℕ) → length xs < 2 → Writes (const_of op v) xs xs Short
-const-short op v xs h = writes-not (omega (arith, around-long op (sleb v)))
+pub const_short : (op : ℕ) (v : ℤ) (xs : List ℕ) → length xs < 2 → Writes (const_of op v) xs xs Short
+const_short op v xs h = writes_not (omega (arith, around_long op (sleb v)))
 
 module _ (op : ℕ) (v : ℤ) (xs : List ℕ) {zs : List ℕ} {r : Written} (f : SFits w64 v) (h : 2 ≤ length xs) (w : Writes (sleb (to_z w64 (of_z w64 v))) (mid_of 1 (length xs - 1 - 1) xs) zs r) where
   number : {t : Written} → r ≡ t → Writes (sleb v) (mid_of 1 (length xs - 1 - 1) xs) zs t
   number e = subst (Writes (sleb v) _ zs) e (rw (to_z-of_z f) at w)
 
-  pub const-not : r ≡ Short → Writes (const_of op v) xs (put_mid 1 (length xs - 1 - 1) xs zs) Short
-  const-not e = made-not op (sleb v) xs (length xs - 1 - 1) h refl (number e)
+  pub const_not : r ≡ Short → Writes (const_of op v) xs (put_mid 1 (length xs - 1 - 1) xs zs) Short
+  const_not e = made_not op (sleb v) xs (length xs - 1 - 1) h refl (number e)
 
   module _ {k : ℕ} (e : r ≡ Length k) where
     abbrev begun : List ℕ
     begun = set (put_mid 1 (length xs - 1 - 1) xs zs) 0 op
 
-    pub const-made : Writes (const_of op v) xs (set begun (k + 1) 0x0B) (Length (k + 2))
-    const-made = made-too op (sleb v) xs (length xs - 1 - 1) k h refl (number e)
+    pub const_made : Writes (const_of op v) xs (set begun (k + 1) 0x0B) (Length (k + 2))
+    const_made = made_too op (sleb v) xs (length xs - 1 - 1) k h refl (number e)
 
-    pub const-long : length (set begun (k + 1) 0x0B) ≡ length xs
-    const-long = same-long const-made
+    pub const_long : length (set begun (k + 1) 0x0B) ≡ length xs
+    const_long = same_long const_made
 
     pub end_fits : length xs < 2 ^ 63 → Fits w64 (k + 1)
-    end_fits l = record { fits = omega (arith, within const-made) }
+    end_fits l = record { fits = omega (arith, within const_made) }
 
-    pub long-fits : length xs < 2 ^ 63 → Fits w64 (k + 2)
-    long-fits l = record { fits = omega (arith, within const-made) }
+    pub long_fits : length xs < 2 ^ 63 → Fits w64 (k + 2)
+    long_fits l = record { fits = omega (arith, within const_made) }
 
-    pub end-within : k + 1 < length begun
-    end-within = omega (arith, within const-made, const-long, length-set begun (k + 1) 0x0B)
+    pub end_within : k + 1 < length begun
+    end_within = omega (arith, within const_made, const_long, length-set begun (k + 1) 0x0B)
 
 -- ---- the number, as it is handed on
 
-pub const-same : {op : ℕ} (v : ℤ) {xs ys : List ℕ} {r : Written} → SFits w64 v → Writes (const_of op (to_z w64 (of_z w64 v))) xs ys r → Writes (const_of op v) xs ys r
-const-same v f w = rw (to_z-of_z f) at w
+pub const_same : {op : ℕ} (v : ℤ) {xs ys : List ℕ} {r : Written} → SFits w64 v → Writes (const_of op (to_z w64 (of_z w64 v))) xs ys r → Writes (const_of op v) xs ys r
+const_same v f w = rw (to_z-of_z f) at w
 
-pub const-wider : {op : ℕ} (v : ℤ) {xs ys : List ℕ} {r : Written} → SFits w32 v → Writes (const_of op (to_z w64 (of_z w64 (to_z w32 (of_z w32 v))))) xs ys r → Writes (const_of op v) xs ys r
-const-wider v f w = rw (widened v f) at w
+pub const_wider : {op : ℕ} (v : ℤ) {xs ys : List ℕ} {r : Written} → SFits w32 v → Writes (const_of op (to_z w64 (of_z w64 (to_z w32 (of_z w32 v))))) xs ys r → Writes (const_of op v) xs ys r
+const_wider v f w = rw (widened v f) at w

@@ -2,13 +2,13 @@
 use Rattle.std.specs.Prelude.{◌≡◌, refl, ◌↔◌, Bool, true, false, cond, List, [], ◌∷◌, ◌++◌, ℕ, ◌+◌, eqb, length}
 use Rattle.std.proofs.Common.{sym, ap, subst, ◌∙◌, append-nil, arith, length-append, eqb-true, eq-eqb}
 use Rattle.exprs.specs.Grammar.{Expr}
-use Rattle.exprs.specs.Scan.{exprEnd, whole, answer}
+use Rattle.exprs.specs.Scan.{expr_end, whole, answer}
 use Rattle.exprs.specs.Laws.{complete, sound}
 use Rattle.exprs.specs.declared.ExprEnd.{ExprEnd}
 use Rattle.exprs.specs.declared.ExprEnd.TheVariants.{At, Nothing}
 
-pub zero-exactly : (s : List ℕ) → (answer s ≡ 0) ↔ Expr s
-zero-exactly s = (there (exprEnd s) refl, back)
+pub zero_exactly : (s : List ℕ) → (answer s ≡ 0) ↔ Expr s
+zero_exactly s = (there (expr_end s) refl, back)
   where
     all_of : (j : ℕ) (bytes rest : List ℕ) → Expr bytes → s ≡ bytes ++ rest → j ≡ length bytes → j ≡ length s → Expr s
     all_of j bytes [] x e l k = subst Expr (sym (e ∙ append-nil bytes)) x
@@ -18,22 +18,22 @@ zero-exactly s = (there (exprEnd s) refl, back)
     at-end j true e h = eqb-true j (length s) e
     at-end j false e h = absurd (omega arith)
 
-    there : (x : ExprEnd) → exprEnd s ≡ x → whole x (length s) ≡ 0 → Expr s
+    there : (x : ExprEnd) → expr_end s ≡ x → whole x (length s) ≡ 0 → Expr s
     there Nothing p h = absurd (omega arith)
     there (At j) p h = let f = sound s j p in all_of j f.bytes f.rest f.expr f.split f.long (at-end j (eqb j (length s)) refl h)
 
     back : Expr s → answer s ≡ 0
     back x =
-        ap (λ (y : ExprEnd). whole y (length s)) (ap exprEnd (sym (append-nil s)) ∙ complete x [])
+        ap (λ (y : ExprEnd). whole y (length s)) (ap expr_end (sym (append-nil s)) ∙ complete x [])
         ∙ ap (λ (b : Bool). cond {A = ℕ} b 0 5) (eq-eqb (length s) (length s) refl)
 
-pub five-exactly : (s : List ℕ) → (answer s ≡ 5) ↔ (Expr s → ⊥)
-five-exactly s = (λ h x. let z = (zero-exactly s).1 x in omega arith, λ h. else-five (exprEnd s) (λ z. h ((zero-exactly s).0 z)))
+pub five_exactly : (s : List ℕ) → (answer s ≡ 5) ↔ (Expr s → ⊥)
+five_exactly s = (λ h x. let z = (zero_exactly s).1 x in omega arith, λ h. else_five (expr_end s) (λ z. h ((zero_exactly s).0 z)))
   where
-    or-five : (b : Bool) → (cond {A = ℕ} b 0 5 ≡ 0 → ⊥) → cond {A = ℕ} b 0 5 ≡ 5
-    or-five true h = absurd (h refl)
-    or-five false h = refl
+    or_five : (b : Bool) → (cond {A = ℕ} b 0 5 ≡ 0 → ⊥) → cond {A = ℕ} b 0 5 ≡ 5
+    or_five true h = absurd (h refl)
+    or_five false h = refl
 
-    else-five : (x : ExprEnd) → (whole x (length s) ≡ 0 → ⊥) → whole x (length s) ≡ 5
-    else-five Nothing h = refl
-    else-five (At j) h = or-five (eqb j (length s)) h
+    else_five : (x : ExprEnd) → (whole x (length s) ≡ 0 → ⊥) → whole x (length s) ≡ 5
+    else_five Nothing h = refl
+    else_five (At j) h = or_five (eqb j (length s)) h

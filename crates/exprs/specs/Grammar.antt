@@ -11,19 +11,19 @@ pub record Bytes (n : ℕ) (o : List ℕ) : Type 0 where
 
 -- 41 n:s32, 42 n:s64, 43 z:f32, 44 z:f64, 23 x:u32, D0 ht with an abstract heap type, D2 x:u32, and add, sub and mul
 pub data Instr : List ℕ → Type 0 where
-  i32-const : (o : List ℕ) (z : ℤ) → S 32 o z → Instr (0x41 ∷ o)
-  i64-const : (o : List ℕ) (z : ℤ) → S 64 o z → Instr (0x42 ∷ o)
-  f32-const : (o : List ℕ) → Bytes 4 o → Instr (0x43 ∷ o)
-  f64-const : (o : List ℕ) → Bytes 8 o → Instr (0x44 ∷ o)
-  global-get : (o : List ℕ) (x : ℕ) → U 32 o x → Instr (0x23 ∷ o)
-  ref-null : (b : ℕ) → 0x68 ≤ b → b ≤ 0x75 → Instr (0xD0 ∷ b ∷ [])
-  ref-func : (o : List ℕ) (x : ℕ) → U 32 o x → Instr (0xD2 ∷ o)
-  i32-add : Instr (0x6A ∷ [])
-  i32-sub : Instr (0x6B ∷ [])
-  i32-mul : Instr (0x6C ∷ [])
-  i64-add : Instr (0x7C ∷ [])
-  i64-sub : Instr (0x7D ∷ [])
-  i64-mul : Instr (0x7E ∷ [])
+  i32_const : (o : List ℕ) (z : ℤ) → S 32 o z → Instr (0x41 ∷ o)
+  i64_const : (o : List ℕ) (z : ℤ) → S 64 o z → Instr (0x42 ∷ o)
+  f32_const : (o : List ℕ) → Bytes 4 o → Instr (0x43 ∷ o)
+  f64_const : (o : List ℕ) → Bytes 8 o → Instr (0x44 ∷ o)
+  global_get : (o : List ℕ) (x : ℕ) → U 32 o x → Instr (0x23 ∷ o)
+  ref_null : (b : ℕ) → 0x68 ≤ b → b ≤ 0x75 → Instr (0xD0 ∷ b ∷ [])
+  ref_func : (o : List ℕ) (x : ℕ) → U 32 o x → Instr (0xD2 ∷ o)
+  i32_add : Instr (0x6A ∷ [])
+  i32_sub : Instr (0x6B ∷ [])
+  i32_mul : Instr (0x6C ∷ [])
+  i64_add : Instr (0x7C ∷ [])
+  i64_sub : Instr (0x7D ∷ [])
+  i64_mul : Instr (0x7E ∷ [])
 
 -- any run of instructions, and then 0B
 pub data Expr : List ℕ → Type 0 where

@@ -40,21 +40,21 @@ unfoldable pub opcode : ℕ → Next
 opcode b = lookup codes b
 
 -- what a byte leaves of an operand
-unfoldable pub rawLeft : ℕ → ℕ → Left
-rawLeft n b = cond (ltb b 256) (Still (n - 1)) Wrong
+unfoldable pub raw_left : ℕ → ℕ → Left
+raw_left n b = cond (ltb b 256) (Still (n - 1)) Wrong
 
 -- as the reading of a number has it (leb128/specs/Leb.antt, `wide`)
-unfoldable pub numberLeft : Bool → ℕ → ℕ → Left
-numberLeft s n b = cond (ltb b 128) (cond (within s n (last_of s b)) (Still 0) Wrong) (cond (ltb b 256 && ltb 7 n) (Still (n - 7)) Wrong)
+unfoldable pub number_left : Bool → ℕ → ℕ → Left
+number_left s n b = cond (ltb b 128) (cond (within s n (last_of s b)) (Still 0) Wrong) (cond (ltb b 256 && ltb 7 n) (Still (n - 7)) Wrong)
 
-unfoldable pub isHeap : ℕ → Bool
-isHeap b = cond (ltb b 0x68) false (ltb b 0x76)
+unfoldable pub is_heap : ℕ → Bool
+is_heap b = cond (ltb b 0x68) false (ltb b 0x76)
 
-abbrev pub heapLeft : ℕ → Left
-heapLeft b = cond (isHeap b) (Still 0) Wrong
+abbrev pub heap_left : ℕ → Left
+heap_left b = cond (is_heap b) (Still 0) Wrong
 
 unfoldable pub operand : ℕ → ℕ → ℕ → Left
-operand k n b = cond (eqb k 0) (rawLeft n b) (cond (eqb k 1) (heapLeft b) (numberLeft (eqb k 3) n b))
+operand k n b = cond (eqb k 0) (raw_left n b) (cond (eqb k 1) (heap_left b) (number_left (eqb k 3) n b))
 
 -- so many bytes later
 abbrev pub plus : ℕ → ExprEnd → ExprEnd
@@ -86,8 +86,8 @@ PassedTo k n s i Nothing = plus i (scan k n (drop i s)) ≡ Nothing
 pub record Passed (k n : ℕ) (s : List ℕ) (i : ℕ) (r : ExprEnd) : Type 0 where
   pub to : PassedTo k n s i r
 
-abbrev pub exprEnd : List ℕ → ExprEnd
-exprEnd s = scan 0 0 s
+abbrev pub expr_end : List ℕ → ExprEnd
+expr_end s = scan 0 0 s
 
 -- document 01, Answers by number: 0 where the bytes are an expression, else 5
 abbrev pub whole : ExprEnd → ℕ → ℕ
@@ -95,4 +95,4 @@ whole (At k) n = cond (eqb k n) 0 5
 whole Nothing n = 5
 
 abbrev pub answer : List ℕ → ℕ
-answer s = whole (exprEnd s) (length s)
+answer s = whole (expr_end s) (length s)

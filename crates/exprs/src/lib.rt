@@ -2,7 +2,7 @@
 ghost use Rattle.std.specs.Prelude.{◌≡◌, ◌≤◌, ◌<◌, length, drop};
 ghost use Rattle.format.specs.Write.{Writes};
 ghost use Rattle.exprs.specs.Const.{const_of};
-ghost use Rattle.exprs.specs.Scan.{codes, lookup, opcode as opcode_of, numberLeft, isHeap, Passed, exprEnd, answer};
+ghost use Rattle.exprs.specs.Scan.{codes, lookup, opcode as opcode_of, number_left, is_heap, Passed, expr_end, answer};
 
 use format::Written;
 
@@ -87,7 +87,7 @@ fn opcode(b: u8) -> Next
 // A number is read as far as its last byte; the standard's widths hold.
 fn number_left(signed: bool, n: u32, b: u8) -> Left
     requires { 0 < n }
-    ensures { result ≡ numberLeft signed n b }
+    ensures { result ≡ number_left signed n b }
 {
     if b < 0x80 {
         if leb128::is_within(signed, n, b) {
@@ -103,7 +103,7 @@ fn number_left(signed: bool, n: u32, b: u8) -> Left
 
 // An abstract heap type is one byte.
 fn is_heap(b: u8) -> bool
-    ensures { result ≡ isHeap b }
+    ensures { result ≡ is_heap b }
 {
     if b < 0x68 {
         return false;
@@ -132,7 +132,7 @@ fn plain_end(k: u8, n: u32, s: &[u8], i: usize) -> ExprEnd
 }
 
 pub fn expr_end(s: &[u8]) -> ExprEnd
-    ensures { result ≡ exprEnd s.now }
+    ensures { result ≡ expr_end s.now }
 {
     let mut i = 0;
     let end = 'instructions: loop {

@@ -42,29 +42,29 @@ given n b later e earlier d = (there earlier d, back earlier)
     back (c ∷ cs) (h, q) = rw h.0 (back cs (h.1, q))
 
 -- a last condition that gives 0, or that does not hold, changes nothing
-answer-end : (c : ℕ × Bool) → answer (c ∷ []) ≡ 0 → (cs : List (ℕ × Bool)) → answer (cs ++ (c ∷ [])) ≡ answer cs
-answer-end c e [] = e
-answer-end c e (d ∷ cs) = ap (λ (n : ℕ). cond d.1 d.0 n) (answer-end c e cs)
+answer_end : (c : ℕ × Bool) → answer (c ∷ []) ≡ 0 → (cs : List (ℕ × Bool)) → answer (cs ++ (c ∷ [])) ≡ answer cs
+answer_end c e [] = e
+answer_end c e (d ∷ cs) = ap (λ (n : ℕ). cond d.1 d.0 n) (answer_end c e cs)
 
 -- accepted exactly if no condition holds
-pub accepted-exactly : (cs : List (ℕ × Bool)) → has 0 cs ≡ false → (answer cs ≡ 0) ↔ NoneHolds cs
-accepted-exactly cs d =
+pub accepted_exactly : (cs : List (ℕ × Bool)) → has 0 cs ≡ false → (answer cs ≡ 0) ↔ NoneHolds cs
+accepted_exactly cs d =
     let g = given 0 true [] (λ e. absurd (true≢false e)) cs d in
-    (λ e. (g.0 (answer-end (0, true) refl cs ∙ e)).0, λ h. sym (answer-end (0, true) refl cs) ∙ g.1 (h, refl))
+    (λ e. (g.0 (answer_end (0, true) refl cs ∙ e)).0, λ h. sym (answer_end (0, true) refl cs) ∙ g.1 (h, refl))
 
 -- a number that is none of theirs is not given
-not-given : (n : ℕ) → (n ≡ 0 → ⊥) → (cs : List (ℕ × Bool)) → has n cs ≡ false → answer cs ≡ n → ⊥
-not-given n z cs h q = true≢false (sym ((given n false [] (λ e r. z (sym r)) cs h).0 (answer-end (n, false) refl cs ∙ q)).1)
+not_given : (n : ℕ) → (n ≡ 0 → ⊥) → (cs : List (ℕ × Bool)) → has n cs ≡ false → answer cs ≡ n → ⊥
+not_given n z cs h q = true≢false (sym ((given n false [] (λ e r. z (sym r)) cs h).0 (answer_end (n, false) refl cs ∙ q)).1)
 
 -- a number is given exactly if its condition holds and none that is judged earlier
-pub given-exactly : (n : ℕ) (b : Bool) (earlier later : List (ℕ × Bool)) → (n ≡ 0 → ⊥) → has n earlier ≡ false → has n later ≡ false
+pub given_exactly : (n : ℕ) (b : Bool) (earlier later : List (ℕ × Bool)) → (n ≡ 0 → ⊥) → has n earlier ≡ false → has n later ≡ false
     → (answer (earlier ++ ((n, b) ∷ later)) ≡ n) ↔ (NoneHolds earlier × (b ≡ true))
-given-exactly n b earlier later z d e = given n b later (λ _. not-given n z later e) earlier d
+given_exactly n b earlier later z d e = given n b later (λ _. not_given n z later e) earlier d
 
 -- conditions that are judged behind others decide where none of those holds
-pub answer-then : (cs ds : List (ℕ × Bool)) → has 0 cs ≡ false → answer (cs ++ ds) ≡ cond (eqb (answer cs) 0) (answer ds) (answer cs)
-answer-then [] ds d = refl
-answer-then (c ∷ cs) ds d = go c.1 (eqb c.0 0) refl d (answer-then cs ds)
+pub answer_then : (cs ds : List (ℕ × Bool)) → has 0 cs ≡ false → answer (cs ++ ds) ≡ cond (eqb (answer cs) 0) (answer ds) (answer cs)
+answer_then [] ds d = refl
+answer_then (c ∷ cs) ds d = go c.1 (eqb c.0 0) refl d (answer_then cs ds)
   where
     go : (t u : Bool) → eqb c.0 0 ≡ u → cond u true (has 0 cs) ≡ false → (has 0 cs ≡ false → answer (cs ++ ds) ≡ cond (eqb (answer cs) 0) (answer ds) (answer cs))
         → cond t c.0 (answer (cs ++ ds)) ≡ cond (eqb (cond t c.0 (answer cs)) 0) (answer ds) (cond t c.0 (answer cs))
@@ -81,29 +81,29 @@ module _ {O : Type 0} (refused : ℕ → O) (accepted : O) where
   unfoldable pub settled : ℕ → O
   settled n = cond (eqb n 0) accepted (refused n)
 
-  pub settled-accepts : (n : ℕ) → n ≡ 0 → settled n ≡ accepted
+  pub settled_accepts : (n : ℕ) → n ≡ 0 → settled n ≡ accepted
   unfolding settled
-  settled-accepts n e = rw (eq-eqb n 0 e)
+  settled_accepts n e = rw (eq-eqb n 0 e)
 
-  pub settled-refuses : (n : ℕ) → (n ≡ 0 → ⊥) → settled n ≡ refused n
+  pub settled_refuses : (n : ℕ) → (n ≡ 0 → ⊥) → settled n ≡ refused n
   unfolding settled
-  settled-refuses n h = rw (ne_eqb n 0 h)
+  settled_refuses n h = rw (ne_eqb n 0 h)
 
   -- its number is the answer, so what is so exactly if that is some number is so exactly if its own is
   module _ (number : O → ℕ) (a : number accepted ≡ 0) (r : (n : ℕ) → number (refused n) ≡ n) where
-    settled-number : (n : ℕ) → number (settled n) ≡ n
-    settled-number n = go (eqb n 0) refl
+    settled_number : (n : ℕ) → number (settled n) ≡ n
+    settled_number n = go (eqb n 0) refl
       where
         go : (t : Bool) → eqb n 0 ≡ t → number (settled n) ≡ n
-        go true e = ap number (settled-accepts n (eqb-true n 0 e)) ∙ a ∙ sym (eqb-true n 0 e)
-        go false e = ap number (settled-refuses n (eqb-false n 0 e)) ∙ r n
+        go true e = ap number (settled_accepts n (eqb-true n 0 e)) ∙ a ∙ sym (eqb-true n 0 e)
+        go false e = ap number (settled_refuses n (eqb-false n 0 e)) ∙ r n
 
-    pub settled-exactly : {P : Type 0} {n m : ℕ} → (n ≡ m) ↔ P → (number (settled n) ≡ m) ↔ P
-    settled-exactly {P} {n} {m} h = (λ e. h.0 (sym (settled-number n) ∙ e), λ p. settled-number n ∙ h.1 p)
+    pub settled_exactly : {P : Type 0} {n m : ℕ} → (n ≡ m) ↔ P → (number (settled n) ≡ m) ↔ P
+    settled_exactly {P} {n} {m} h = (λ e. h.0 (sym (settled_number n) ∙ e), λ p. settled_number n ∙ h.1 p)
 
 -- an answer that is an enum stands for an outcome; where the outcome tells the answer and the memory, any two that stand for the same are equal
-pub one-stands : {R M O : Type 0} (stands : R → M → O) (answer_of : O → R) (memoryOf : O → M) → ((r : R) (m : M) → answer_of (stands r m) ≡ r)
-    → ((r : R) (m : M) → memoryOf (stands r m) ≡ m) → {w : O} {r s : R} {m n : M} → stands r m ≡ w → stands s n ≡ w → (r ≡ s) × (m ≡ n)
-one-stands stands answer_of memoryOf a b {w} {r} {s} {m} {n} p q =
+pub one_stands : {R M O : Type 0} (stands : R → M → O) (answer_of : O → R) (memory_of : O → M) → ((r : R) (m : M) → answer_of (stands r m) ≡ r)
+    → ((r : R) (m : M) → memory_of (stands r m) ≡ m) → {w : O} {r s : R} {m n : M} → stands r m ≡ w → stands s n ≡ w → (r ≡ s) × (m ≡ n)
+one_stands stands answer_of memory_of a b {w} {r} {s} {m} {n} p q =
     let e = p ∙ sym q in
-    (sym (a r m) ∙ ap answer_of e ∙ a s n, sym (b r m) ∙ ap memoryOf e ∙ b s n)
+    (sym (a r m) ∙ ap answer_of e ∙ a s n, sym (b r m) ∙ ap memory_of e ∙ b s n)

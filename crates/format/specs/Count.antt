@@ -5,54 +5,54 @@ use Rattle.std.proofs.Common.{sym, ◌∙◌, ap, subst, append_assoc, append-ni
 use Rattle.std.proofs.Math.Seq.{set-append_seam}
 use borrow.Rule.Slice.PartMut.{put_mid, mid_of, same_len_mid}
 use Rattle.format.specs.Read.{drop_more}
-use Rattle.format.specs.Write.{over, Writes, wrote, rest-lent, rest_back}
+use Rattle.format.specs.Write.{over, Writes, wrote, rest_lent, rest_back}
 use Rattle.format.specs.declared.Written.{Written}
 use Rattle.format.specs.declared.Done.{Done}
 
 -- stands for no refusal: it is above all that a text draws (3, 4, 5)
-abbrev pub noRefusal : ℕ
-noRefusal = 9
+abbrev pub no_refusal : ℕ
+no_refusal = 9
 
 -- what draws none
 abbrev pub silent : {A : Type 0} → A → ℕ
-silent a = noRefusal
+silent a = no_refusal
 
 -- no more is ever written; one more stands for all that is
-abbrev pub countMost : ℕ
-countMost = 65536
+abbrev pub count_most : ℕ
+count_most = 65536
 
 abbrev pub counted : ℕ → ℕ
-counted n = min n (countMost + 1)
+counted n = min n (count_most + 1)
 
 -- one number holds both: so many refusals there is room for below the count
-abbrev pub lowRoom : ℕ
-lowRoom = 16
+abbrev pub low_room : ℕ
+low_room = 16
 
 -- how much was appended, and the lowest refusal
-abbrev pub countIn : Done → ℕ
-countIn s = s.v / lowRoom
+abbrev pub count_in : Done → ℕ
+count_in s = s.v / low_room
 
-abbrev pub lowIn : Done → ℕ
-lowIn s = s.v % lowRoom
+abbrev pub low_in : Done → ℕ
+low_in s = s.v % low_room
 
-abbrev pub grownBy : Done → ℕ → ℕ
-grownBy s k = lowRoom * counted (countIn s + k) + lowIn s
+abbrev pub grown_by : Done → ℕ → ℕ
+grown_by s k = low_room * counted (count_in s + k) + low_in s
 
 abbrev pub lowered : Done → ℕ → Done
-lowered s k = record { v = lowRoom * countIn s + min (lowIn s) k }
+lowered s k = record { v = low_room * count_in s + min (low_in s) k }
 
 -- p was appended to a buffer that held old and now holds out; l is the lowest refusal
 pub record Has (p : List ℕ) (l : ℕ) (old out : List ℕ) (s : Done) : Type 0 where
-  pub holds : s.v ≡ lowRoom * counted (length p) + l
-  pub small : l ≤ noRefusal
+  pub holds : s.v ≡ low_room * counted (length p) + l
+  pub small : l ≤ no_refusal
   pub kept : length out ≡ length old
-  pub bytes : length p ≤ countMost → length p ≤ length old → out ≡ over p old
+  pub bytes : length p ≤ count_most → length p ≤ length old → out ≡ over p old
 
-pub has-count : {p : List ℕ} {l : ℕ} {old out : List ℕ} {s : Done} → Has p l old out s → countIn s ≡ counted (length p)
-has-count h = omega (arith, h.holds, h.small)
+pub has_count : {p : List ℕ} {l : ℕ} {old out : List ℕ} {s : Done} → Has p l old out s → count_in s ≡ counted (length p)
+has_count h = omega (arith, h.holds, h.small)
 
-pub has-lowest : {p : List ℕ} {l : ℕ} {old out : List ℕ} {s : Done} → Has p l old out s → lowIn s ≡ l
-has-lowest h = omega (arith, h.holds, h.small)
+pub has_lowest : {p : List ℕ} {l : ℕ} {old out : List ℕ} {s : Done} → Has p l old out s → low_in s ≡ l
+has_lowest h = omega (arith, h.holds, h.small)
 
 -- q is appended, with the refusal m, whatever was appended before
 pub record Adds (q : List ℕ) (m : ℕ) (before : List ℕ) (s : Done) (after : List ℕ) (t : Done) : Type 0 where
@@ -60,32 +60,32 @@ pub record Adds (q : List ℕ) (m : ℕ) (before : List ℕ) (s : Done) (after :
 
 -- and no refusal is drawn
 abbrev pub Appends : List ℕ → List ℕ → Done → List ℕ → Done → Type 0
-Appends q = Adds q noRefusal
+Appends q = Adds q no_refusal
 
-pub has-eq : {p q : List ℕ} {l m : ℕ} {old out : List ℕ} {s : Done} → p ≡ q → l ≡ m → Has p l old out s → Has q m old out s
-has-eq {p} {q} {l} {m} {old} {out} {s} e f h = subst (λ (x : List ℕ). Has x m old out s) e (subst (λ (k : ℕ). Has p k old out s) f h)
+pub has_eq : {p q : List ℕ} {l m : ℕ} {old out : List ℕ} {s : Done} → p ≡ q → l ≡ m → Has p l old out s → Has q m old out s
+has_eq {p} {q} {l} {m} {old} {out} {s} e f h = subst (λ (x : List ℕ). Has x m old out s) e (subst (λ (k : ℕ). Has p k old out s) f h)
 
-pub adds-eq : {p q : List ℕ} {l m : ℕ} {a b : List ℕ} {s t : Done} → p ≡ q → l ≡ m → Adds p l a s b t → Adds q m a s b t
-adds-eq {p} {q} {l} {m} {a} {b} {s} {t} e f h = subst (λ (x : List ℕ). Adds x m a s b t) e (subst (λ (k : ℕ). Adds p k a s b t) f h)
+pub adds_eq : {p q : List ℕ} {l m : ℕ} {a b : List ℕ} {s t : Done} → p ≡ q → l ≡ m → Adds p l a s b t → Adds q m a s b t
+adds_eq {p} {q} {l} {m} {a} {b} {s} {t} e f h = subst (λ (x : List ℕ). Adds x m a s b t) e (subst (λ (k : ℕ). Adds p k a s b t) f h)
 
 pub min_assoc : (a b c : ℕ) → min (min a b) c ≡ min a (min b c)
 min_assoc a b c = omega arith
 
 -- ---- one after the other
 
-pub adds-nil : (a : List ℕ) (s : Done) → Appends [] a s a s
-adds-nil a s = record { more = go }
+pub adds_nil : (a : List ℕ) (s : Done) → Appends [] a s a s
+adds_nil a s = record { more = go }
   where
-    go : (p : List ℕ) (l : ℕ) (old : List ℕ) → Has p l old a s → Has (p ++ []) (min l noRefusal) old a s
-    go p l old h = let i : l ≤ noRefusal = h.small in has-eq (sym (append-nil p)) (omega arith) h
+    go : (p : List ℕ) (l : ℕ) (old : List ℕ) → Has p l old a s → Has (p ++ []) (min l no_refusal) old a s
+    go p l old h = let i : l ≤ no_refusal = h.small in has_eq (sym (append-nil p)) (omega arith) h
 
-pub adds-seq : {p q : List ℕ} {l m : ℕ} {a b c : List ℕ} {s t u : Done} → Adds p l a s b t → Adds q m b t c u → Adds (p ++ q) (min l m) a s c u
-adds-seq {p} {q} {l} {m} {a} {b} {c} {s} {t} {u} x y =
-    record { more = λ r k old h. has-eq (append_assoc r p q) (min_assoc k l m) (y.more (r ++ p) (min k l) old (x.more r k old h)) }
+pub adds_seq : {p q : List ℕ} {l m : ℕ} {a b c : List ℕ} {s t u : Done} → Adds p l a s b t → Adds q m b t c u → Adds (p ++ q) (min l m) a s c u
+adds_seq {p} {q} {l} {m} {a} {b} {c} {s} {t} {u} x y =
+    record { more = λ r k old h. has_eq (append_assoc r p q) (min_assoc k l m) (y.more (r ++ p) (min k l) old (x.more r k old h)) }
 
 -- a refusal is drawn too
-pub adds-low : {q : List ℕ} {m : ℕ} {a : List ℕ} {s : Done} {b : List ℕ} {t : Done} (k : ℕ) → Adds q m a s b t → Adds q (min m k) a s b (lowered t k)
-adds-low {q} {m} {a} {s} {b} {t} k x = record { more = go }
+pub adds_low : {q : List ℕ} {m : ℕ} {a : List ℕ} {s : Done} {b : List ℕ} {t : Done} (k : ℕ) → Adds q m a s b t → Adds q (min m k) a s b (lowered t k)
+adds_low {q} {m} {a} {s} {b} {t} k x = record { more = go }
   where
     go : (p : List ℕ) (l : ℕ) (old : List ℕ) → Has p l old a s → Has (p ++ q) (min l (min m k)) old b (lowered t k)
     go p l old h =
@@ -94,21 +94,21 @@ adds-low {q} {m} {a} {s} {b} {t} k x = record { more = go }
 
 -- ---- the start, where nothing has been appended yet, and the end
 
-pub has-start : (old : List ℕ) (s : Done) (l : ℕ) → s.v ≡ l → l ≤ noRefusal → Has [] l old old s
-has-start old s l e h = record { holds = omega (arith, e); small = h; kept = refl; bytes = λ i k. refl }
+pub has_start : (old : List ℕ) (s : Done) (l : ℕ) → s.v ≡ l → l ≤ no_refusal → Has [] l old old s
+has_start old s l e h = record { holds = omega (arith, e); small = h; kept = refl; bytes = λ i k. refl }
 
-pub adds-fresh : {q : List ℕ} {m : ℕ} {old new : List ℕ} {s t : Done} → Adds q m old s new t → s.v ≡ noRefusal → m ≤ noRefusal → Has q m old new t
-adds-fresh {q} {m} {old} {new} {s} x e h = has-eq refl (omega arith) (x.more [] noRefusal old (has-start old s noRefusal e (omega arith)))
+pub adds_fresh : {q : List ℕ} {m : ℕ} {old new : List ℕ} {s t : Done} → Adds q m old s new t → s.v ≡ no_refusal → m ≤ no_refusal → Has q m old new t
+adds_fresh {q} {m} {old} {new} {s} x e h = has_eq refl (omega arith) (x.more [] no_refusal old (has_start old s no_refusal e (omega arith)))
 
 -- ---- a leaf: it is counted, and where all fits it leaves its bytes behind those before
 
-module _ (b out new : List ℕ) (s t : Done) (g : t.v ≡ grownBy s (length b)) (k : length new ≡ length out) where
-  leaf-has : ((p old : List ℕ) → countIn s ≡ length p → length p + length b ≤ length out → length out ≡ length old → out ≡ over p old → new ≡ over (p ++ b) old)
-      → (p : List ℕ) (l : ℕ) (old : List ℕ) → Has p l old out s → Has (p ++ b) (min l noRefusal) old new t
-  leaf-has w p l old h =
-      let c = has-count h in
-      let e = has-lowest h in
-      let i : l ≤ noRefusal = h.small in
+module _ (b out new : List ℕ) (s t : Done) (g : t.v ≡ grown_by s (length b)) (k : length new ≡ length out) where
+  leaf_has : ((p old : List ℕ) → count_in s ≡ length p → length p + length b ≤ length out → length out ≡ length old → out ≡ over p old → new ≡ over (p ++ b) old)
+      → (p : List ℕ) (l : ℕ) (old : List ℕ) → Has p l old out s → Has (p ++ b) (min l no_refusal) old new t
+  leaf_has w p l old h =
+      let c = has_count h in
+      let e = has_lowest h in
+      let i : l ≤ no_refusal = h.small in
       let o : length out ≡ length old = h.kept in
       let long : length (p ++ b) ≡ length p + length b = length-append p b in
       record {
@@ -118,45 +118,45 @@ module _ (b out new : List ℕ) (s t : Done) (g : t.v ≡ grownBy s (length b)) 
         bytes = λ u v. w p old (omega (arith, c)) (omega arith) o (h.bytes (omega arith) (omega arith));
       }
 
-  pub adds-leaf : ((p old : List ℕ) → countIn s ≡ length p → length p + length b ≤ length out → length out ≡ length old → out ≡ over p old → new ≡ over (p ++ b) old)
+  pub adds_leaf : ((p old : List ℕ) → count_in s ≡ length p → length p + length b ≤ length out → length out ≡ length old → out ≡ over p old → new ≡ over (p ++ b) old)
       → Appends b out s new t
-  adds-leaf w = record { more = leaf-has w }
+  adds_leaf w = record { more = leaf_has w }
 
 -- b over what stands behind p
 behind : (p b old : List ℕ) → p ++ over b (drop (length p) old) ≡ over (p ++ b) old
 behind p b old = rw (drop-drop, length-append, append_assoc)
 
 -- a writer was lent the part from the current end on
-pub adds-part : (b out part : List ℕ) {r : Written} (s t : Done) (at : ℕ) → at ≡ min (countIn s) (length out) → t.v ≡ grownBy s (length b)
+pub adds_part : (b out part : List ℕ) {r : Written} (s t : Done) (at : ℕ) → at ≡ min (count_in s) (length out) → t.v ≡ grown_by s (length b)
     → length part ≡ length (mid_of at (length out - at) out) → Writes b (mid_of at (length out - at) out) part r
     → Appends b out s (put_mid at (length out - at) out part) t
-adds-part b out part {r} s t at is g k w = adds-leaf b out (put_mid at (length out - at) out part) s t g (same_len_mid at (length out - at) out part k) go
+adds_part b out part {r} s t at is g k w = adds_leaf b out (put_mid at (length out - at) out part) s t g (same_len_mid at (length out - at) out part k) go
   where
-    go : (p old : List ℕ) → countIn s ≡ length p → length p + length b ≤ length out → length out ≡ length old → out ≡ over p old
+    go : (p old : List ℕ) → count_in s ≡ length p → length p + length b ≤ length out → length out ≡ length old → out ≡ over p old
         → put_mid at (length out - at) out part ≡ over (p ++ b) old
     go p old e room o d =
-        let v : Writes b (drop at out) part r = rw rest-lent at w in
+        let v : Writes b (drop at out) part r = rw rest_lent at w in
         let l : at ≡ length p = omega arith in
         let front : take at out ≡ p = rw d (take_at p (drop (length p) old) at (sym l)) in
         let rest : drop at out ≡ drop (length p) old = rw d (drop_at p (drop (length p) old) at (sym l)) in
         let fits : length b ≤ length (drop at out) = simp length-drop (omega arith) in
         rw (rest_back at out part (omega arith), front, (wrote v fits).1, rest) (behind p b old)
 
--- as `adds-part`, with the current end by the count's own name: the bytes are counted, whether there was room for them or not
-pub adds-lent : {b : List ℕ} (out : List ℕ) (s : Done) {n at : ℕ} → n ≡ countIn s → at ≡ min n (length out) → {part : List ℕ} {r : Written} → Writes b (mid_of at (length out - at) out) part r
-    → length part ≡ length (mid_of at (length out - at) out) → {t : Done} → t.v ≡ grownBy s (length b) → Appends b out s (put_mid at (length out - at) out part) t
-adds-lent {b} out s {n} {at} c is {part} {r} w k {t} g = adds-part b out part s t at (is ∙ ap (λ (m : ℕ). min m (length out)) c) g k w
+-- as `adds_part`, with the current end by the count's own name: the bytes are counted, whether there was room for them or not
+pub adds_lent : {b : List ℕ} (out : List ℕ) (s : Done) {n at : ℕ} → n ≡ count_in s → at ≡ min n (length out) → {part : List ℕ} {r : Written} → Writes b (mid_of at (length out - at) out) part r
+    → length part ≡ length (mid_of at (length out - at) out) → {t : Done} → t.v ≡ grown_by s (length b) → Appends b out s (put_mid at (length out - at) out part) t
+adds_lent {b} out s {n} {at} c is {part} {r} w k {t} g = adds_part b out part s t at (is ∙ ap (λ (m : ℕ). min m (length out)) c) g k w
 
 -- one number, by a store at the current end
-pub adds-set : (x : ℕ) (out : List ℕ) (s t : Done) → t.v ≡ grownBy s 1 → Appends (x ∷ []) out s (set out (countIn s) x) t
-adds-set x out s t g = adds-leaf (x ∷ []) out (set out (countIn s) x) s t g (length-set out (countIn s) x) go
+pub adds_set : (x : ℕ) (out : List ℕ) (s t : Done) → t.v ≡ grown_by s 1 → Appends (x ∷ []) out s (set out (count_in s) x) t
+adds_set x out s t g = adds_leaf (x ∷ []) out (set out (count_in s) x) s t g (length-set out (count_in s) x) go
   where
-    go : (p old : List ℕ) → countIn s ≡ length p → length p + 1 ≤ length out → length out ≡ length old → out ≡ over p old → set out (countIn s) x ≡ over (p ++ (x ∷ [])) old
+    go : (p old : List ℕ) → count_in s ≡ length p → length p + 1 ≤ length out → length out ≡ length old → out ≡ over p old → set out (count_in s) x ≡ over (p ++ (x ∷ [])) old
     go p old e r o d =
         let m : drop (length p) old ≡ get_or old (length p) 0 ∷ drop (length p + 1) old = drop_more old (length p) (omega arith) in
         let q : out ≡ p ++ (get_or old (length p) 0 ∷ drop (length p + 1) old) = d ∙ ap (λ (l : List ℕ). p ++ l) m in
         rw (e, q, set-append_seam p (get_or old (length p) 0) (drop (length p + 1) old) x, length-append p (x ∷ []), append_assoc p (x ∷ []) (drop (length p + 1) old))
 
 -- there is no room for it
-pub adds-past : (x : ℕ) (out : List ℕ) (s t : Done) → t.v ≡ grownBy s 1 → length out ≤ countIn s → Appends (x ∷ []) out s out t
-adds-past x out s t g h = adds-leaf (x ∷ []) out out s t g refl (λ p old e r o d. absurd (omega arith))
+pub adds_past : (x : ℕ) (out : List ℕ) (s t : Done) → t.v ≡ grown_by s 1 → length out ≤ count_in s → Appends (x ∷ []) out s out t
+adds_past x out s t g h = adds_leaf (x ∷ []) out out s t g refl (λ p old e r o d. absurd (omega arith))

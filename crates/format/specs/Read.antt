@@ -2,7 +2,7 @@
 use Rattle.std.specs.Prelude.{◌↔◌, ◌≡◌, refl, List, [], ◌∷◌, ◌++◌, ℕ, ◌+◌, ◌-◌, ◌<◌, ◌≤◌, cond, eqb, length, get_or, take, drop}
 use Rattle.std.proofs.Common.{sym, ◌∙◌, ap, append_assoc, add-one, arith, length-append, length-drop, take-append-drop, drop_of_length-le, drop-cons}
 use Rattle.std.proofs.Math.Seq.{drop-append_seam}
-use Rattle.format.specs.Parsed.{Parsed, fail, got, got-rest}
+use Rattle.format.specs.Parsed.{Parsed, fail, got, got_rest}
 use Rattle.format.specs.Format.{Format, refuses}
 
 -- ---- what stands from a place on
@@ -10,18 +10,18 @@ use Rattle.format.specs.Format.{Format, refuses}
 pub drop_more : (s : List ℕ) (n : ℕ) → n < length s → drop n s ≡ get_or s n 0 ∷ drop (n + 1) s
 drop_more s n h = rw (add-one n) (drop-cons s n 0 h)
 
-pub drop-end : (s : List ℕ) (n : ℕ) → length s ≤ n → drop n s ≡ []
-drop-end s n h = drop_of_length-le s h
+pub drop_end : (s : List ℕ) (n : ℕ) → length s ≤ n → drop n s ≡ []
+drop_end s n h = drop_of_length-le s h
 
-pub drop-two : (s : List ℕ) (p : ℕ) → p + 2 ≤ length s → drop p s ≡ get_or s p 0 ∷ get_or s (p + 1) 0 ∷ drop (p + 2) s
-drop-two s p h =
+pub drop_two : (s : List ℕ) (p : ℕ) → p + 2 ≤ length s → drop p s ≡ get_or s p 0 ∷ get_or s (p + 1) 0 ∷ drop (p + 2) s
+drop_two s p h =
     let e : p + 1 + 1 ≡ p + 2 = omega arith in
     rw (drop_more s p (omega arith), drop_more s (p + 1) (omega arith), e)
 
 -- a value that takes one number, by the number that stands there; and none, where that number is no value's
-pub one-read : {A : Type 0} (F : Format A) (a : A) (x : ℕ) → F.Ok a → F.print a ≡ x ∷ [] → (w : List ℕ) (at : ℕ) → at < length w → get_or w at 0 ≡ x
+pub one_read : {A : Type 0} (F : Format A) (a : A) (x : ℕ) → F.Ok a → F.print a ≡ x ∷ [] → (w : List ℕ) (at : ℕ) → at < length w → get_or w at 0 ≡ x
     → F.parse (drop at w) ≡ got a (drop (at + 1) w)
-one-read F a x ok e w at h q = rw (drop_more w at h, q) (ap (λ (l : List ℕ). F.parse (l ++ drop (at + 1) w)) (sym e) ∙ F.back a (drop (at + 1) w) ok)
+one_read F a x ok e w at h q = rw (drop_more w at h, q) (ap (λ (l : List ℕ). F.parse (l ++ drop (at + 1) w)) (sym e) ∙ F.back a (drop (at + 1) w) ok)
 
 pub none_read : {A : Type 0} (F : Format A) (code : A → ℕ) → ((a : A) → F.print a ≡ code a ∷ []) → (w : List ℕ) (at : ℕ) → at < length w
     → ((a : A) → get_or w at 0 ≡ code a → ⊥) → F.parse (drop at w) ≡ fail
@@ -61,9 +61,9 @@ rest_at F s at a t e =
     (sym (rw n (ap (drop (length q)) se ∙ drop-append_seam q t)), omega arith)
 
 -- which is so many numbers behind as the value takes
-pub read-on : {A : Type 0} (F : Format A) (s : List ℕ) (at : ℕ) (a : A) (t : List ℕ) → at ≤ length s → F.parse (drop at s) ≡ got a t
+pub read_on : {A : Type 0} (F : Format A) (s : List ℕ) (at : ℕ) (a : A) (t : List ℕ) → at ≤ length s → F.parse (drop at s) ≡ got a t
     → (F.parse (drop at s) ≡ got a (drop (at + length (F.print a)) s)) × (at + length (F.print a) ≤ length s)
-read-on F s at a t h e =
+read_on F s at a t h e =
     let l : length (drop at s) ≡ length (F.print a) + length t = ap length (F.only (drop at s) a t e).1 ∙ length-append (F.print a) t in
     let n : length (drop at s) ≡ length s - at = length-drop at s in
     let p : place_of s t ≡ at + length (F.print a) = omega arith in
@@ -77,7 +77,7 @@ begins F s at a t k e =
 
 -- so it ends as many numbers behind where it began as it prints
 pub ends_at : {A : Type 0} (F : Format A) (s : List ℕ) (at p : ℕ) (a : A) → F.parse (drop at s) ≡ got a (drop p s) → at ≤ length s → p ≤ length s → p ≡ at + length (F.print a)
-ends_at F s at p a e h k = let on = read-on F s at a (drop p s) h e in same_place s k on.1 (got-rest (sym e ∙ on.0))
+ends_at F s at p a e h k = let on = read_on F s at a (drop p s) h e in same_place s k on.1 (got_rest (sym e ∙ on.0))
 
 -- ---- answers
 
@@ -104,13 +104,13 @@ module _ {A : Type 0} (zero : A) (s : List ℕ) where
   pub reads : {m : Parsed A} {a : A} {p : ℕ} → m ≡ got a (drop p s) → p ≤ length s → found a p ≡ reading zero s m
   reads {m} {a} {p} e h = rw (e, place_at s p h)
 
-  pub reads-not : {m : Parsed A} → m ≡ fail → nothing zero ≡ reading zero s m
-  reads-not e = rw e
+  pub reads_not : {m : Parsed A} → m ≡ fail → nothing zero ≡ reading zero s m
+  reads_not e = rw e
 
   -- what its answer tells
-  pub told-found : (F : Format A) (at : ℕ) {a : A} {p : ℕ} → found a p ≡ reading zero s (F.parse (drop at s))
+  pub told_found : (F : Format A) (at : ℕ) {a : A} {p : ℕ} → found a p ≡ reading zero s (F.parse (drop at s))
       → (F.parse (drop at s) ≡ got a (drop p s)) × (p ≤ length s)
-  told-found F at {a} {p} w = go (F.parse (drop at s)) refl w
+  told_found F at {a} {p} w = go (F.parse (drop at s)) refl w
     where
       go : (m : Parsed A) → F.parse (drop at s) ≡ m → found a p ≡ reading zero s m → (F.parse (drop at s) ≡ got a (drop p s)) × (p ≤ length s)
       go fail e w = let z : ◌≡◌ {A = ℕ} 0 11 = ap (λ (o : Outcome A). o.number) w in absurd (omega arith)
@@ -120,17 +120,17 @@ module _ {A : Type 0} (zero : A) (s : List ℕ) where
           let ra = rest_at F s at b t e in
           (rw (e, ab, pt) (ap (λ (l : List ℕ). got b l) ra.0), rw pt ra.1)
 
-  pub told-nothing : {m : Parsed A} → nothing zero ≡ reading zero s m → m ≡ fail
-  told-nothing {m} w = go m w
+  pub told_nothing : {m : Parsed A} → nothing zero ≡ reading zero s m → m ≡ fail
+  told_nothing {m} w = go m w
     where
       go : (m : Parsed A) → nothing zero ≡ reading zero s m → m ≡ fail
       go fail w = refl
       go (got b t) w = let z : ◌≡◌ {A = ℕ} 11 0 = ap (λ (o : Outcome A). o.number) w in absurd (omega arith)
 
 -- 11 is given exactly where nothing that the format prints begins the numbers t
-pub eleven-exactly : {A : Type 0} (F : Format A) (zero : A) (s t : List ℕ)
+pub eleven_exactly : {A : Type 0} (F : Format A) (zero : A) (s t : List ℕ)
     → ((reading zero s (F.parse t)).number ≡ 11) ↔ ((a : A) (r : List ℕ) → F.Ok a → t ≡ F.print a ++ r → ⊥)
-eleven-exactly {A} F zero s t = (λ e. (refuses F t).0 (only (F.parse t) e), λ h. ap (λ (m : Parsed A). (reading zero s m).number) ((refuses F t).1 h))
+eleven_exactly {A} F zero s t = (λ e. (refuses F t).0 (only (F.parse t) e), λ h. ap (λ (m : Parsed A). (reading zero s m).number) ((refuses F t).1 h))
   where
     only : (m : Parsed A) → (reading zero s m).number ≡ 11 → m ≡ fail
     only fail e = refl
@@ -145,12 +145,12 @@ pub record BegunBy {A : Type 0} (F : Format A) (t : List ℕ) : Type 0 where
 
 module _ {A : Type 0} (F : Format A) (zero : A) (s t : List ℕ) where
   -- it is what is answered
-  pub begins-read : (b : BegunBy F t) → reading zero s (F.parse t) ≡ found b.value (place_of s b.rest)
-  begins-read b = ap (reading zero s) (ap F.parse b.is ∙ F.back b.value b.rest b.ok)
+  pub begins_read : (b : BegunBy F t) → reading zero s (F.parse t) ≡ found b.value (place_of s b.rest)
+  begins_read b = ap (reading zero s) (ap F.parse b.is ∙ F.back b.value b.rest b.ok)
 
   -- 0 is given exactly where there is one
-  pub zero-exactly : ((reading zero s (F.parse t)).number ≡ 0) ↔ BegunBy F t
-  zero-exactly = (go (F.parse t) refl, λ b. ap (λ (o : Outcome A). o.number) (begins-read b))
+  pub zero_exactly : ((reading zero s (F.parse t)).number ≡ 0) ↔ BegunBy F t
+  zero_exactly = (go (F.parse t) refl, λ b. ap (λ (o : Outcome A). o.number) (begins_read b))
     where
       go : (m : Parsed A) → F.parse t ≡ m → (reading zero s m).number ≡ 0 → BegunBy F t
       go fail e z = absurd (omega arith)

@@ -3,14 +3,14 @@ use Rattle.std.specs.Prelude.{◌≡◌, refl, List, ◌++◌, ℕ, ◌+◌, len
 use Rattle.std.proofs.Common.{ap, ◌∙◌, arith, length-append}
 use Rattle.format.specs.Parsed.{got}
 use Rattle.format.specs.Format.{Format}
-use Rattle.format.specs.Write.{Writes, told-length}
+use Rattle.format.specs.Write.{Writes, told_length}
 use Rattle.format.specs.Read.{found, reading, place_of}
 use Rattle.format.specs.declared.Written.TheVariants.{Length}
 
 pub written_read : {A : Type 0} (F : Format A) (zero a : A) (xs ys : List ℕ) (n : ℕ) → F.Ok a → Writes (F.print a) xs ys (Length n)
     → reading zero ys (F.parse ys) ≡ found a n
 written_read F zero a xs ys n ok w =
-    let t = told-length w refl in
+    let t = told_length w refl in
     let r = drop (length (F.print a)) xs in
     let y : ys ≡ F.print a ++ r = t.2 in
     let e : F.parse ys ≡ got a r = ap F.parse y ∙ F.back a r ok in

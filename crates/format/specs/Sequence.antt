@@ -7,7 +7,7 @@ use Rattle.format.specs.Format.{Format}
 use Rattle.format.specs.Combine.{dep, pair}
 use Rattle.format.specs.Read.{place_of}
 use Rattle.format.specs.Count.{silent}
-use Rattle.format.specs.Walk.{Walking, nothing-there, not_found, was-found, walks-as}
+use Rattle.format.specs.Walk.{Walking, nothing_there, not_found, was_found, walks_as}
 use Rattle.format.specs.declared.Done.{Done}
 use Rattle.format.specs.declared.Walk.{Walk}
 use Rattle.format.specs.declared.Walk.TheVariants as walks
@@ -41,21 +41,21 @@ module _ {A B C : Type 0} (P : List ℕ → Parsed A) (f : A → List ℕ) (g : 
 module _ {A B C : Type 0} {P : List ℕ → Parsed A} {f : A → List ℕ} {g : A → ℕ} {Q : List ℕ → Parsed B} {f' : B → List ℕ} {g' : B → ℕ} {X : List ℕ → Parsed C} {f'' : C → List ℕ} {g'' : C → ℕ}
     (J : Joins P f g Q f' g' X f'' g'') {w : List ℕ} {at : ℕ} {old : List ℕ} {s : Done} {new : List ℕ} {r : Walk} where
   -- where the first part is missing, so is the whole
-  pub first-missing : Walking P f g w at old s new r → r ≡ walks.No → Walking X f'' g'' w at old s new walks.No
-  first-missing h e = nothing-there (rw (J.reads (drop at w), not_found h e))
+  pub first_missing : Walking P f g w at old s new r → r ≡ walks.No → Walking X f'' g'' w at old s new walks.No
+  first_missing h e = nothing_there (rw (J.reads (drop at w), not_found h e))
 
   -- else a walk over the second part, from where the first one ended, is one over the whole
-  pub second-follows : {cur : List ℕ} {p : ℕ} {u : Done} {r' : Walk} → Walking P f g w at old s cur r → r ≡ walks.Got p u → Walking Q f' g' w p cur u new r' → Walking X f'' g'' w at old s new r'
-  second-follows {p = p} h e k =
-      let q = was-found h e in
+  pub second_follows : {cur : List ℕ} {p : ℕ} {u : Done} {r' : Walk} → Walking P f g w at old s cur r → r ≡ walks.Got p u → Walking Q f' g' w p cur u new r' → Walking X f'' g'' w at old s new r'
+  second_follows {p = p} h e k =
+      let q = was_found h e in
       let t : q.rest ≡ drop p w = left_at P J.ends w at q.value q.rest q.is ∙ ap (λ (n : ℕ). drop n w) q.place in
-      walks-as (J.join q.value) (J.reads (drop at w) ∙ rw (q.is, t)) (J.writes q.value) (J.draws q.value) q.adds k
+      walks_as (J.join q.value) (J.reads (drop at w) ∙ rw (q.is, t)) (J.writes q.value) (J.draws q.value) q.adds k
 
 -- the value as something else
-pub joins-map : {A B C D : Type 0} (P : List ℕ → Parsed A) (f : A → List ℕ) (g : A → ℕ) (Q : List ℕ → Parsed B) (f' : B → List ℕ) (g' : B → ℕ) (X : List ℕ → Parsed C)
+pub joins_map : {A B C D : Type 0} (P : List ℕ → Parsed A) (f : A → List ℕ) (g : A → ℕ) (Q : List ℕ → Parsed B) (f' : B → List ℕ) (g' : B → ℕ) (X : List ℕ → Parsed C)
     (f'' : C → List ℕ) (g'' : C → ℕ) (Y : List ℕ → Parsed D) (f''' : D → List ℕ) (g''' : D → ℕ) (h : C → D) → ((s : List ℕ) → Y s ≡ map h (X s))
     → ((c : C) → f'' c ≡ f''' (h c)) → ((c : C) → g'' c ≡ g''' (h c)) → Joins P f g Q f' g' X f'' g'' → Joins P f g Q f' g' Y f''' g'''
-joins-map {A} {B} {C} {D} P f g Q f' g' X f'' g'' Y f''' g''' h e ef eg J =
+joins_map {A} {B} {C} {D} P f g Q f' g' X f'' g'' Y f''' g''' h e ef eg J =
     record {
       ends = J.ends;
       join = λ a b. h (J.join a b);
@@ -69,32 +69,32 @@ joins-map {A} {B} {C} {D} P f g Q f' g' X f'' g'' Y f''' g''' h e ef eg J =
     go (got a r) = map-map h (J.join a) (Q r)
 
 -- a pair
-pub pair-plain : {A B : Type 0} (F : Format A) (G : Format B) (s : List ℕ) → (pair F G).parse s ≡ bind (F.parse s) (λ a r. map (λ b. (a, b)) (G.parse r))
-pair-plain {A} {B} F G s = go (F.parse s)
+pub pair_plain : {A B : Type 0} (F : Format A) (G : Format B) (s : List ℕ) → (pair F G).parse s ≡ bind (F.parse s) (λ a r. map (λ b. (a, b)) (G.parse r))
+pair_plain {A} {B} F G s = go (F.parse s)
   where
-    in-it : (a : A) (m : Parsed B) → bind {B = A × B} m (λ b t. got (a, b) t) ≡ map {B = A × B} (λ b. (a, b)) m
-    in-it a fail = refl
-    in-it a (got b t) = refl
+    in_it : (a : A) (m : Parsed B) → bind {B = A × B} m (λ b t. got (a, b) t) ≡ map {B = A × B} (λ b. (a, b)) m
+    in_it a fail = refl
+    in_it a (got b t) = refl
 
     go : (m : Parsed A) → bind {B = A × B} m (λ a r. bind (G.parse r) (λ b t. got (a, b) t)) ≡ bind {B = A × B} m (λ a r. map (λ b. (a, b)) (G.parse r))
     go fail = refl
-    go (got a r) = in-it a (G.parse r)
+    go (got a r) = in_it a (G.parse r)
 
 -- one with no refusals; and what is made of one: what most types are
 module _ {A B : Type 0} (F : Format A) (f : A → List ℕ) (G : Format B) (f' : B → List ℕ) where
-  pub pair-joins : Joins F.parse f silent G.parse f' silent (pair F G).parse (λ p. f p.0 ++ f' p.1) silent
-  pair-joins = record { ends = leaves F; join = λ a b. (a, b); reads = pair-plain F G; writes = λ a b. refl; draws = λ a b. refl }
+  pub pair_joins : Joins F.parse f silent G.parse f' silent (pair F G).parse (λ p. f p.0 ++ f' p.1) silent
+  pair_joins = record { ends = leaves F; join = λ a b. (a, b); reads = pair_plain F G; writes = λ a b. refl; draws = λ a b. refl }
 
   pub joins : {C : Type 0} (X : Format C) (f'' : C → List ℕ) (h : A × B → C) → ((s : List ℕ) → X.parse s ≡ map h ((pair F G).parse s))
       → ((a : A) (b : B) → f a ++ f' b ≡ f'' (h (a, b))) → Joins F.parse f silent G.parse f' silent X.parse f'' silent
   joins X f'' h e w =
-      joins-map F.parse f silent G.parse f' silent (pair F G).parse (λ p. f p.0 ++ f' p.1) silent X.parse f'' silent h e (λ p. w p.0 p.1) (λ p. refl)
-      pair-joins
+      joins_map F.parse f silent G.parse f' silent (pair F G).parse (λ p. f p.0 ++ f' p.1) silent X.parse f'' silent h e (λ p. w p.0 p.1) (λ p. refl)
+      pair_joins
 
 -- a value that is there, and one whose format depends on it
 module _ {A : Type 0} {B : A → Type 0} (F : Format A) (G : (a : A) → Format (B a)) where
-  pub dep-known : (a : A) (s r : List ℕ) → F.parse s ≡ got a r → (dep F G).parse s ≡ map {B = (a : A) × B a} (λ b. (a, b)) ((G a).parse r)
-  dep-known a s r e = rw e (go ((G a).parse r))
+  pub dep_known : (a : A) (s r : List ℕ) → F.parse s ≡ got a r → (dep F G).parse s ≡ map {B = (a : A) × B a} (λ b. (a, b)) ((G a).parse r)
+  dep_known a s r e = rw e (go ((G a).parse r))
     where
       go : (m : Parsed (B a)) → bind {B = (a : A) × B a} m (λ b t. got (a, b) t) ≡ map {B = (a : A) × B a} (λ b. (a, b)) m
       go fail = refl

@@ -4,8 +4,8 @@ use Rattle.std.specs.Prelude.{◌≡◌, refl, List, [], ◌++◌, ℕ, ◌≤�
 use Rattle.std.proofs.Common.{sym, ◌∙◌, ap, subst, arith}
 use Rattle.format.specs.Parsed.{Parsed, fail, got, map}
 use Rattle.format.specs.Format.{Format}
-use Rattle.format.specs.Read.{place_of, place_at, rest_at, drop-end}
-use Rattle.format.specs.Count.{Adds, adds-seq, adds-eq}
+use Rattle.format.specs.Read.{place_of, place_at, rest_at, drop_end}
+use Rattle.format.specs.Count.{Adds, adds_seq, adds_eq}
 use Rattle.format.specs.declared.Done.{Done}
 use Rattle.format.specs.declared.Walk.{Walk}
 use Rattle.format.specs.declared.Walk.TheVariants as walks
@@ -25,11 +25,11 @@ Walks W = Walking W.parse
 -- ---- a walk with no other in it: nothing of the kind is there, nothing at all is left, or a value is there
 
 module _ {A : Type 0} {P : List ℕ → Parsed A} {f : A → List ℕ} {g : A → ℕ} {w : List ℕ} {at : ℕ} {old : List ℕ} {s : Done} {new : List ℕ} where
-  pub nothing-there : P (drop at w) ≡ fail → Walking P f g w at old s new walks.No
-  nothing-there e = record { walked = rw e refl }
+  pub nothing_there : P (drop at w) ≡ fail → Walking P f g w at old s new walks.No
+  nothing_there e = record { walked = rw e refl }
 
   pub nothing_left : length w ≤ at → P [] ≡ fail → Walking P f g w at old s new walks.No
-  nothing_left h e = nothing-there (ap P (drop-end w at h) ∙ e)
+  nothing_left h e = nothing_there (ap P (drop_end w at h) ∙ e)
 
   pub value_there : {a : A} {p : ℕ} {u : Done} → Adds (f a) (g a) old s new u → P (drop at w) ≡ got a (drop p w) → p ≤ length w → Walking P f g w at old s new (walks.Got p u)
   value_there {a} {p} {u} d e h = record { walked = rw e (u, rw (place_at w p h), d) }
@@ -52,8 +52,8 @@ module _ {A : Type 0} {P : List ℕ → Parsed A} {f : A → List ℕ} {g : A �
       go fail k = refl
       go (got a t) k = let z : ◌≡◌ {A = ℕ} 0 1 = cc k.1 in absurd (omega arith)
 
-  pub was-found : {p : ℕ} {u : Done} → r ≡ walks.Got p u → Found P f g w at old s new p u
-  was-found {p} {u} e = go (P (drop at w)) refl h.walked
+  pub was_found : {p : ℕ} {u : Done} → r ≡ walks.Got p u → Found P f g w at old s new p u
+  was_found {p} {u} e = go (P (drop at w)) refl h.walked
     where
       go : (m : Parsed A) → P (drop at w) ≡ m → Walked f g w m old s new r → Found P f g w at old s new p u
       go fail q k = let z : ◌≡◌ {A = ℕ} 0 1 = cc in absurd (omega arith)
@@ -73,7 +73,7 @@ pub record Gone {A : Type 0} (W : Format A) (f : A → List ℕ) (g : A → ℕ)
 pub gone : {A : Type 0} (W : Format A) {f : A → List ℕ} {g : A → ℕ} {w : List ℕ} {at : ℕ} {old : List ℕ} {s : Done} {new : List ℕ} {r : Walk} {p : ℕ} {u : Done} → Walks W f g w at old s new r
     → r ≡ walks.Got p u → Gone W f g w at old s new p u
 gone W {w = w} {at} h e =
-    let q = was-found h e in
+    let q = was_found h e in
     let ra = rest_at W w at q.value q.rest q.is in
     record {
       value = q.value;
@@ -87,13 +87,13 @@ gone W {w = w} {at} h e =
 module _ {A B : Type 0} (name : B → A) {Q : List ℕ → Parsed B} {f' : B → List ℕ} {g' : B → ℕ} {X : List ℕ → Parsed A} {f : A → List ℕ} {g : A → ℕ} {pre : List ℕ} {l : ℕ} {w : List ℕ} {p at : ℕ}
     {old : List ℕ} {s : Done} {cur : List ℕ} {t : Done} {new : List ℕ} {r : Walk} (e : X (drop at w) ≡ map name (Q (drop p w))) where
   -- what is written may depend on what was read
-  pub walks-read : ((b : B) (q : List ℕ) → Q (drop p w) ≡ got b q → pre ++ f' b ≡ f (name b)) → ((b : B) → min l (g' b) ≡ g (name b)) → Adds pre l old s cur t → Walking Q f' g' w p cur t new r
+  pub walks_read : ((b : B) (q : List ℕ) → Q (drop p w) ≡ got b q → pre ++ f' b ≡ f (name b)) → ((b : B) → min l (g' b) ≡ g (name b)) → Adds pre l old s cur t → Walking Q f' g' w p cur t new r
       → Walking X f g w at old s new r
-  walks-read writes draws a x = record { walked = rw e (go (Q (drop p w)) refl x.walked) }
+  walks_read writes draws a x = record { walked = rw e (go (Q (drop p w)) refl x.walked) }
     where
       go : (m : Parsed B) → Q (drop p w) ≡ m → Walked f' g' w m cur t new r → Walked f g w (map name m) old s new r
       go fail i k = k
-      go (got b q) i k = (k.0, k.1, adds-eq (writes b q i) (draws b) (adds-seq a k.2))
+      go (got b q) i k = (k.0, k.1, adds_eq (writes b q i) (draws b) (adds_seq a k.2))
 
-  pub walks-as : ((b : B) → pre ++ f' b ≡ f (name b)) → ((b : B) → min l (g' b) ≡ g (name b)) → Adds pre l old s cur t → Walking Q f' g' w p cur t new r → Walking X f g w at old s new r
-  walks-as writes draws a x = walks-read (λ b q i. writes b) draws a x
+  pub walks_as : ((b : B) → pre ++ f' b ≡ f (name b)) → ((b : B) → min l (g' b) ≡ g (name b)) → Adds pre l old s cur t → Walking Q f' g' w p cur t new r → Walking X f g w at old s new r
+  walks_as writes draws a x = walks_read (λ b q i. writes b) draws a x

@@ -40,8 +40,8 @@ same_outcome Short (Length m) ys zs e = let z : ◌≡◌ {A = ℕ} 10 0 = ap (�
 same_outcome Short Short ys zs e = (refl, ap (λ (o : Outcome). o.memory) e)
 
 -- any two outcomes that it allows are equal
-pub one-outcome : {b xs ys zs : List ℕ} {r s : Written} → Writes b xs ys r → Writes b xs zs s → (r ≡ s) × (ys ≡ zs)
-one-outcome {ys = ys} {zs = zs} {r = r} {s = s} p q = same_outcome r s ys zs (p.right ∙ sym q.right)
+pub one_outcome : {b xs ys zs : List ℕ} {r s : Written} → Writes b xs ys r → Writes b xs zs s → (r ≡ s) × (ys ≡ zs)
+one_outcome {ys = ys} {zs = zs} {r = r} {s = s} p q = same_outcome r s ys zs (p.right ∙ sym q.right)
 
 -- ---- where the bytes fit, and where they do not
 
@@ -52,64 +52,64 @@ fits_or m n = go (leb m n) refl
     go true e = inl (leb-true m n e)
     go false e = inr (leb-false m n e)
 
-writing-fits : (b xs : List ℕ) → length b ≤ length xs → writing b xs ≡ outcome (Length (length b)) (over b xs)
+writing_fits : (b xs : List ℕ) → length b ≤ length xs → writing b xs ≡ outcome (Length (length b)) (over b xs)
 unfolding writing
-writing-fits b xs h = rw (le-leb (length b) (length xs) h)
+writing_fits b xs h = rw (le-leb (length b) (length xs) h)
 
-writing-short : (b xs : List ℕ) → length xs < length b → writing b xs ≡ outcome Short xs
+writing_short : (b xs : List ℕ) → length xs < length b → writing b xs ≡ outcome Short xs
 unfolding writing
-writing-short b xs h = rw (lt-leb (length b) (length xs) h)
+writing_short b xs h = rw (lt-leb (length b) (length xs) h)
 
 -- how a writer meets its contract
 pub writes : {b xs ys : List ℕ} {n : ℕ} → length b ≤ length xs → n ≡ length b → ys ≡ over b xs → Writes b xs ys (Length n)
-writes {b} {xs} {ys} {n} h e m = record { right = rw (writing-fits b xs h, e, m) }
+writes {b} {xs} {ys} {n} h e m = record { right = rw (writing_fits b xs h, e, m) }
 
-pub writes-not : {b xs : List ℕ} → length xs < length b → Writes b xs xs Short
-writes-not {b} {xs} h = record { right = sym (writing-short b xs h) }
+pub writes_not : {b xs : List ℕ} → length xs < length b → Writes b xs xs Short
+writes_not {b} {xs} h = record { right = sym (writing_short b xs h) }
 
 -- one byte, by a store
-pub write-one : (b : ℕ) (xs : List ℕ) → 0 < length xs → Writes (b ∷ []) xs (set xs 0 b) (Length 1)
-write-one b [] h = absurd (omega arith)
-write-one b (x ∷ xs) h = writes (omega arith) refl refl
+pub write_one : (b : ℕ) (xs : List ℕ) → 0 < length xs → Writes (b ∷ []) xs (set xs 0 b) (Length 1)
+write_one b [] h = absurd (omega arith)
+write_one b (x ∷ xs) h = writes (omega arith) refl refl
 
 -- what a writer did, where there is room
 pub wrote : {b xs ys : List ℕ} {r : Written} → Writes b xs ys r → length b ≤ length xs → (r ≡ Length (length b)) × (ys ≡ over b xs)
-wrote w h = one-outcome w (writes h refl refl)
+wrote w h = one_outcome w (writes h refl refl)
 
 -- what its answer tells
-pub told-length : {b xs ys : List ℕ} {r : Written} {n : ℕ} → Writes b xs ys r → r ≡ Length n → (n ≡ length b) × (length b ≤ length xs) × (ys ≡ over b xs)
-told-length {b} {xs} {ys} {r} {n} w e = ⊎_elim fit (λ h. absurd (never h)) (fits_or (length b) (length xs))
+pub told_length : {b xs ys : List ℕ} {r : Written} {n : ℕ} → Writes b xs ys r → r ≡ Length n → (n ≡ length b) × (length b ≤ length xs) × (ys ≡ over b xs)
+told_length {b} {xs} {ys} {r} {n} w e = ⊎_elim fit (λ h. absurd (never h)) (fits_or (length b) (length xs))
   where
     fit : length b ≤ length xs → (n ≡ length b) × (length b ≤ length xs) × (ys ≡ over b xs)
     fit h = let d = wrote w h in (cc d.0, h, d.1)
 
     never : length xs < length b → ⊥
-    never h = let z : ◌≡◌ {A = ℕ} 0 1 = cc (one-outcome w (writes-not h)).0 in omega arith
+    never h = let z : ◌≡◌ {A = ℕ} 0 1 = cc (one_outcome w (writes_not h)).0 in omega arith
 
-pub told-short : {b xs ys : List ℕ} {r : Written} → Writes b xs ys r → r ≡ Short → (length xs < length b) × (ys ≡ xs)
-told-short {b} {xs} {ys} {r} w e = ⊎_elim (λ h. absurd (never h)) (λ h. (h, (one-outcome w (writes-not h)).1)) (fits_or (length b) (length xs))
+pub told_short : {b xs ys : List ℕ} {r : Written} → Writes b xs ys r → r ≡ Short → (length xs < length b) × (ys ≡ xs)
+told_short {b} {xs} {ys} {r} w e = ⊎_elim (λ h. absurd (never h)) (λ h. (h, (one_outcome w (writes_not h)).1)) (fits_or (length b) (length xs))
   where
     never : length b ≤ length xs → ⊥
     never h = let z : ◌≡◌ {A = ℕ} 0 1 = cc (wrote w h).0 in omega arith
 
 -- 10 is given exactly where the output is shorter than the result
-pub ten-exactly : {b xs ys : List ℕ} {r : Written} → Writes b xs ys r → ((outcome r ys).number ≡ 10) ↔ (length xs < length b)
-ten-exactly {b} {xs} {ys} {r} w = (λ e. ⊎_elim (λ h. absurd (fit e h)) (λ h. h) (fits_or (length b) (length xs)), λ h. ap (λ (o : Outcome). o.number) (w.right ∙ writing-short b xs h))
+pub ten_exactly : {b xs ys : List ℕ} {r : Written} → Writes b xs ys r → ((outcome r ys).number ≡ 10) ↔ (length xs < length b)
+ten_exactly {b} {xs} {ys} {r} w = (λ e. ⊎_elim (λ h. absurd (fit e h)) (λ h. h) (fits_or (length b) (length xs)), λ h. ap (λ (o : Outcome). o.number) (w.right ∙ writing_short b xs h))
   where
     fit : (outcome r ys).number ≡ 10 → length b ≤ length xs → ⊥
-    fit e h = let z : (outcome r ys).number ≡ 0 = ap (λ (o : Outcome). o.number) (w.right ∙ writing-fits b xs h) in omega arith
+    fit e h = let z : (outcome r ys).number ≡ 0 = ap (λ (o : Outcome). o.number) (w.right ∙ writing_fits b xs h) in omega arith
 
 -- and 0 exactly where there is room for it
-pub zero-exactly : {b xs ys : List ℕ} {r : Written} → Writes b xs ys r → ((outcome r ys).number ≡ 0) ↔ (length b ≤ length xs)
-zero-exactly {b} {xs} {ys} {r} w = (λ e. ⊎_elim (λ h. h) (λ h. absurd (short e h)) (fits_or (length b) (length xs)), λ h. ap (λ (o : Outcome). o.number) (w.right ∙ writing-fits b xs h))
+pub zero_exactly : {b xs ys : List ℕ} {r : Written} → Writes b xs ys r → ((outcome r ys).number ≡ 0) ↔ (length b ≤ length xs)
+zero_exactly {b} {xs} {ys} {r} w = (λ e. ⊎_elim (λ h. h) (λ h. absurd (short e h)) (fits_or (length b) (length xs)), λ h. ap (λ (o : Outcome). o.number) (w.right ∙ writing_fits b xs h))
   where
     short : (outcome r ys).number ≡ 0 → length xs < length b → ⊥
-    short e h = let z = (ten-exactly w).1 h in omega arith
+    short e h = let z = (ten_exactly w).1 h in omega arith
 
 -- ---- the rest of a lent buffer, `&mut out[n..]`: what is lent, and what the whole is when it has come back
 
-pub rest-lent : (n : ℕ) (xs : List ℕ) → mid_of n (length xs - n) xs ≡ drop n xs
-rest-lent n xs = take_all (length xs - n) (drop n xs) (simp length-drop (le_refl (length xs - n)))
+pub rest_lent : (n : ℕ) (xs : List ℕ) → mid_of n (length xs - n) xs ≡ drop n xs
+rest_lent n xs = take_all (length xs - n) (drop n xs) (simp length-drop (le_refl (length xs - n)))
 
 pub rest_back : (n : ℕ) (xs ys : List ℕ) → n ≤ length xs → put_mid n (length xs - n) xs ys ≡ take n xs ++ ys
 rest_back n xs ys h = simp (Post-is n (length xs) xs h, drop-length, append-nil)
@@ -121,25 +121,25 @@ abbrev pub todo : ℕ → List ℕ → List ℕ → List ℕ
 todo i b ys = take i ys ++ (b ++ drop (i + length b) ys)
 
 -- at the start all is to be done, at the end nothing
-pub todo-start : (b xs : List ℕ) → todo 0 b xs ≡ over b xs
-todo-start b xs = rw zero-add
+pub todo_start : (b xs : List ℕ) → todo 0 b xs ≡ over b xs
+todo_start b xs = rw zero-add
 
-pub todo-end : (i : ℕ) (ys : List ℕ) → todo i [] ys ≡ ys
-todo-end i ys = rw (add-zero, take-append-drop)
+pub todo_end : (i : ℕ) (ys : List ℕ) → todo i [] ys ≡ ys
+todo_end i ys = rw (add-zero, take-append-drop)
 
-pub length-todo : (i : ℕ) (b ys : List ℕ) → i + length b ≤ length ys → length (todo i b ys) ≡ length ys
-length-todo i b ys h = simp (length-append, length-drop, length-take-le i ys (omega arith)) (omega arith)
+pub length_todo : (i : ℕ) (b ys : List ℕ) → i + length b ≤ length ys → length (todo i b ys) ≡ length ys
+length_todo i b ys h = simp (length-append, length-drop, length-take-le i ys (omega arith)) (omega arith)
 
 -- a byte, by a store
-pub todo-byte : (i b : ℕ) (bs ys : List ℕ) → i < length ys → todo (i + 1) bs (set ys i b) ≡ todo i (b ∷ bs) ys
-todo-byte i b bs ys h =
+pub todo_byte : (i b : ℕ) (bs ys : List ℕ) → i < length ys → todo (i + 1) bs (set ys i b) ≡ todo i (b ∷ bs) ys
+todo_byte i b bs ys h =
     let e : i + 1 ≡ suc i = omega arith in
     let f : suc i + length bs ≡ i + suc (length bs) = omega arith in
     rw (e, take-suc-set ys i b h, append_assoc, drop-set-lt (suc i + length bs) ys i b (omega arith), f)
 
-todo-over : (i : ℕ) (a b ys : List ℕ) → i + length a ≤ length ys
+todo_over : (i : ℕ) (a b ys : List ℕ) → i + length a ≤ length ys
     → todo (i + length a) b (take i ys ++ over a (drop i ys)) ≡ todo i (a ++ b) ys
-todo-over i a b ys h =
+todo_over i a b ys h =
     let p = take i ys ++ a in
     let n = i + length a in
     let long : length p ≡ n = simp (length-append, length-take-le i ys (omega arith)) in
@@ -158,29 +158,29 @@ todo-over i a b ys h =
     )
 
 -- a writer of a that is lent the rest: what the whole is then
-rest-wrote : (i : ℕ) (a ys : List ℕ) {r : Written} {zs : List ℕ} → Writes a (mid_of i (length ys - i) ys) zs r → i + length a ≤ length ys
+rest_wrote : (i : ℕ) (a ys : List ℕ) {r : Written} {zs : List ℕ} → Writes a (mid_of i (length ys - i) ys) zs r → i + length a ≤ length ys
     → put_mid i (length ys - i) ys zs ≡ take i ys ++ over a (drop i ys)
-rest-wrote i a ys {r} {zs} w h =
-    let v : Writes a (drop i ys) zs r = rw rest-lent at w in
+rest_wrote i a ys {r} {zs} w h =
+    let v : Writes a (drop i ys) zs r = rw rest_lent at w in
     let room : length a ≤ length (drop i ys) = simp length-drop (omega arith) in
     rw (rest_back i ys zs (omega arith), (wrote v room).1)
 
-pub todo-part : (i : ℕ) (a b ys : List ℕ) {r : Written} {zs : List ℕ} → Writes a (mid_of i (length ys - i) ys) zs r → i + length a ≤ length ys
+pub todo_part : (i : ℕ) (a b ys : List ℕ) {r : Written} {zs : List ℕ} → Writes a (mid_of i (length ys - i) ys) zs r → i + length a ≤ length ys
     → todo (i + length a) b (put_mid i (length ys - i) ys zs) ≡ todo i (a ++ b) ys
-todo-part i a b ys w h = rw (rest-wrote i a ys w h) (todo-over i a b ys h)
+todo_part i a b ys w h = rw (rest_wrote i a ys w h) (todo_over i a b ys h)
 
 -- two writers, the second behind the first
-pub todo-two : (i : ℕ) (a b xs : List ℕ) {r s : Written} {zs ws : List ℕ} → i + length a + length b ≤ length xs → Writes a (mid_of i (length xs - i) xs) zs r
+pub todo_two : (i : ℕ) (a b xs : List ℕ) {r s : Written} {zs ws : List ℕ} → i + length a + length b ≤ length xs → Writes a (mid_of i (length xs - i) xs) zs r
     → Writes b (mid_of (i + length a) (length (put_mid i (length xs - i) xs zs) - (i + length a)) (put_mid i (length xs - i) xs zs)) ws s
     → put_mid (i + length a) (length (put_mid i (length xs - i) xs zs) - (i + length a)) (put_mid i (length xs - i) xs zs) ws ≡ todo i (a ++ b) xs
-todo-two i a b xs {r} {s} {zs} {ws} h w v =
+todo_two i a b xs {r} {s} {zs} {ws} h w v =
     let ys = put_mid i (length xs - i) xs zs in
     let long : length ys ≡ length xs =
-    rw (rest-wrote i a xs w (omega arith)) (simp (length-append, length-drop, length-take-le i xs (omega arith)) (omega arith)) in
-    sym (todo-end (i + length a + length b) _)
-    ∙ todo-part (i + length a) b [] ys v (omega arith)
+    rw (rest_wrote i a xs w (omega arith)) (simp (length-append, length-drop, length-take-le i xs (omega arith)) (omega arith)) in
+    sym (todo_end (i + length a + length b) _)
+    ∙ todo_part (i + length a) b [] ys v (omega arith)
     ∙ ap (λ (l : List ℕ). todo (i + length a) l ys) (append-nil b)
-    ∙ todo-part i a b xs w (omega arith)
+    ∙ todo_part i a b xs w (omega arith)
 
 -- ---- writers that there is room for, one behind the other
 
@@ -194,30 +194,30 @@ writes_as {xs = xs} {ys = ys} {r = r} e w = subst (λ (l : List ℕ). Writes l x
 pub writes_then : {a b xs ys zs : List ℕ} {n m : ℕ} → Writes a xs ys (Length n) → Writes b (mid_of n (length ys - n) ys) zs (Length m)
     → Writes (a ++ b) xs (put_mid n (length ys - n) ys zs) (Length (n + m))
 writes_then {a} {b} {xs} {ys} {zs} {n} {m} w v =
-    let (k, h, e) = told-length w refl in
-    let (l, p, _) = told-length v refl in
+    let (k, h, e) = told_length w refl in
+    let (l, p, _) = told_length v refl in
     let long : length ys ≡ length xs = ap length e ∙ simp (length-append, length-drop) (omega arith) in
-    let room : n + length b ≤ length ys = omega (arith, ap length (rest-lent n ys), length-drop n ys) in
+    let room : n + length b ≤ length ys = omega (arith, ap length (rest_lent n ys), length-drop n ys) in
     let t : take n ys ≡ a = ap (take n) e ∙ take_at a (drop (length a) xs) n (sym k) in
     let d : drop n ys ≡ drop (length a) xs = ap (drop n) e ∙ drop_at a (drop (length a) xs) n (sym k) in
     writes (simp length-append (omega arith)) (simp length-append (omega arith))
-    (rest-wrote n b ys v room ∙ rw (t, d, drop-drop, length-append) (sym (append_assoc a b (drop (length a + length b) xs))))
+    (rest_wrote n b ys v room ∙ rw (t, d, drop-drop, length-append) (sym (append_assoc a b (drop (length a + length b) xs))))
 
 -- and there is room for it
 pub record Room (b ys : List ℕ) (n : ℕ) : Type 0 where
   pub start : n ≤ length ys
   pub room : length b ≤ length (mid_of n (length ys - n) ys)
 
-pub room-then : {a xs ys : List ℕ} {n : ℕ} (b : List ℕ) → Writes a xs ys (Length n) → length (a ++ b) ≤ length xs → Room b ys n
-room-then {a} {xs} {ys} {n} b w h =
-    let (k, _, e) = told-length w refl in
+pub room_then : {a xs ys : List ℕ} {n : ℕ} (b : List ℕ) → Writes a xs ys (Length n) → length (a ++ b) ≤ length xs → Room b ys n
+room_then {a} {xs} {ys} {n} b w h =
+    let (k, _, e) = told_length w refl in
     let l : length (a ++ b) ≡ length a + length b = length-append a b in
     let long : length ys ≡ length xs = ap length e ∙ simp (length-append, length-drop) (omega arith) in
-    record { start = omega arith; room = omega (arith, ap length (rest-lent n ys), length-drop n ys) }
+    record { start = omega arith; room = omega (arith, ap length (rest_lent n ys), length-drop n ys) }
 
-pub same-long : {a xs ys : List ℕ} {n : ℕ} → Writes a xs ys (Length n) → length ys ≡ length xs
-same-long w = let (_, h, e) = told-length w refl in ap length e ∙ simp (length-append, length-drop) (omega arith)
+pub same_long : {a xs ys : List ℕ} {n : ℕ} → Writes a xs ys (Length n) → length ys ≡ length xs
+same_long w = let (_, h, e) = told_length w refl in ap length e ∙ simp (length-append, length-drop) (omega arith)
 
 -- what was written is no longer than what was lent
 pub within : {a xs ys : List ℕ} {n : ℕ} → Writes a xs ys (Length n) → n ≤ length xs
-within w = let (k, h, _) = told-length w refl in omega arith
+within w = let (k, h, _) = told_length w refl in omega arith

@@ -1,7 +1,7 @@
 // Writing into the rest of a lent buffer, and counting what is written. The theory of formats that every item is defined by stands in specs/.
 ghost use Rattle.std.specs.Prelude.{◌≡◌, [], ◌∷◌, ◌+◌, min};
 ghost use Rattle.format.specs.Write.{Writes};
-ghost use Rattle.format.specs.Count.{Appends, counted, countIn, lowIn, grownBy, lowered};
+ghost use Rattle.format.specs.Count.{Appends, counted, count_in, low_in, grown_by, lowered};
 
 // What a writer answers: how many numbers it wrote at the front of what it was lent, or that they do not fit and nothing was written.
 #[derive(Drop)]
@@ -106,20 +106,20 @@ pub fn more(a: usize, b: usize) -> usize
 }
 
 pub fn count(s: Done) -> usize
-    ensures { result ≡ countIn s }
+    ensures { result ≡ count_in s }
 {
     (s.v / LOW_ROOM) as usize
 }
 
 pub fn low(s: Done) -> u32
-    ensures { result ≡ lowIn s }
+    ensures { result ≡ low_in s }
 {
     (s.v % LOW_ROOM) as u32
 }
 
 // k more were appended.
 pub fn grown(s: Done, k: usize) -> Done
-    ensures { result.v ≡ grownBy s k }
+    ensures { result.v ≡ grown_by s k }
 {
     let v = s.v;
     if more((v / LOW_ROOM) as usize, k) < COUNT_PAST {

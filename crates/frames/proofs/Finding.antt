@@ -10,42 +10,42 @@ use Rattle.frames.specs.Place.{frame_at}
 use Rattle.frames.specs.declared.FrameAt.{FrameAt}
 use Rattle.frames.specs.declared.FrameAt.TheVariants.{Is}
 use Rattle.frames.proofs.Placing.{Begins, frame_found}
-use Rattle.frames.specs.Ids.{among-each, sections}
+use Rattle.frames.specs.Ids.{among_each, sections}
 
 -- a section's id is below 16
-pub begins-below : {s : List ℕ} {at i end : ℕ} → Begins s at i end → i < 16
-begins-below b = rw (← b.is) (among-each (λ i. i < 16) sections b.here.id (omega arith, (omega arith, (omega arith, (omega arith, (omega arith, tt))))) b.ok.0.1)
+pub begins_below : {s : List ℕ} {at i end : ℕ} → Begins s at i end → i < 16
+begins_below b = rw (← b.is) (among_each (λ i. i < 16) sections b.here.id (omega arith, (omega arith, (omega arith, (omega arith, (omega arith, tt))))) b.ok.0.1)
 
 module _ {i end : ℕ} {r : FrameAt} (e : r ≡ Is i end) (s : List ℕ) (at : ℕ) (d : r ≡ frame_at s at) where
-  pub frame-begins : Begins s at i end
-  frame-begins = frame_found s at i end (sym e ∙ d)
+  pub frame_begins : Begins s at i end
+  frame_begins = frame_found s at i end (sym e ∙ d)
 
   -- its section's id
   pub id_below : i < 16
-  id_below = begins-below frame-begins
+  id_below = begins_below frame_begins
 
-  pub id-fits : Fits w64 i
-  id-fits = let h = id_below in record { fits = omega arith }
+  pub id_fits : Fits w64 i
+  id_fits = let h = id_below in record { fits = omega arith }
 
-  pub id-scaled : Fits w64 (i * 8)
-  id-scaled = let h = id_below in record { fits = omega arith }
+  pub id_scaled : Fits w64 (i * 8)
+  id_scaled = let h = id_below in record { fits = omega arith }
 
   -- its item
-  pub item-starts : at + 5 ≤ end
-  item-starts = omega (arith, frame-begins.long)
+  pub item_starts : at + 5 ≤ end
+  item_starts = omega (arith, frame_begins.long)
 
-  pub frame-from : at ≤ end
-  frame-from = omega (arith, frame-begins.long)
+  pub frame_from : at ≤ end
+  frame_from = omega (arith, frame_begins.long)
 
   pub item_from : 5 ≤ end - at
-  item_from = omega (arith, frame-begins.long)
+  item_from = omega (arith, frame_begins.long)
 
-  pub item-within : end ≤ length s
-  item-within = frame-begins.within
+  pub item_within : end ≤ length s
+  item_within = frame_begins.within
 
-  pub item-fits : length s < 2 ^ 64 → Fits w64 (at + 5)
-  item-fits h = record { fits = omega (arith, frame-begins.long, frame-begins.within) }
+  pub item_fits : length s < 2 ^ 64 → Fits w64 (at + 5)
+  item_fits h = record { fits = omega (arith, frame_begins.long, frame_begins.within) }
 
   -- less is left behind it
-  pub frame-less : length s - end < length s - at
-  frame-less = omega (arith, frame-begins.long, frame-begins.within)
+  pub frame_less : length s - end < length s - at
+  frame_less = omega (arith, frame_begins.long, frame_begins.within)

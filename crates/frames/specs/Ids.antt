@@ -1,5 +1,5 @@
 -- The sections that hold items, and their ids: one list of them, of which all that is said of every section is worked out. A further section is one more entry of
--- `id_of`, `ids`, `every` and `id-full`. Assumes nothing.
+-- `id_of`, `ids`, `every` and `id_full`. Assumes nothing.
 use Rattle.std.specs.Prelude.{◌≡◌, refl, ◌⊎◌, Bool, true, false, cond, List, [], ◌∷◌, map, ℕ, ◌<◌, eqb, ltb}
 use Rattle.std.proofs.Common.{sym, ap, subst, ◌∙◌, inl, inr, true≢false, eqb-true, ltb-true}
 use Rattle.std.proofs.Math.Option.{some}
@@ -29,53 +29,53 @@ sections = map id_of ids
 -- ---- by the list
 
 -- what can be worked out of each is so of every section
-abbrev pub allAre : (SectionId → Bool) → List SectionId → Bool
-allAre p [] = true
-allAre p (s ∷ xs) = cond (p s) (allAre p xs) false
+abbrev pub all_are : (SectionId → Bool) → List SectionId → Bool
+all_are p [] = true
+all_are p (s ∷ xs) = cond (p s) (all_are p xs) false
 
-all_are : (p : SectionId → Bool) (xs : List SectionId) → allAre p xs ≡ true → All (λ s. p s ≡ true) xs
-all_are p [] e = tt
-all_are p (s ∷ xs) e = go (p s) refl e (all_are p xs)
+all_are_lem : (p : SectionId → Bool) (xs : List SectionId) → all_are p xs ≡ true → All (λ s. p s ≡ true) xs
+all_are_lem p [] e = tt
+all_are_lem p (s ∷ xs) e = go (p s) refl e (all_are_lem p xs)
   where
-    go : (t : Bool) → p s ≡ t → cond t (allAre p xs) false ≡ true → (allAre p xs ≡ true → All (λ s. p s ≡ true) xs) → (p s ≡ true) × All (λ s. p s ≡ true) xs
+    go : (t : Bool) → p s ≡ t → cond t (all_are p xs) false ≡ true → (all_are p xs ≡ true → All (λ s. p s ≡ true) xs) → (p s ≡ true) × All (λ s. p s ≡ true) xs
     go true q e f = (q, f e)
     go false q e f = absurd (true≢false (sym e))
 
-pub worked-out : (p : SectionId → Bool) → allAre p ids ≡ true → (s : SectionId) → p s ≡ true
-worked-out p e = every (λ s. p s ≡ true) (all_are p ids e)
+pub worked_out : (p : SectionId → Bool) → all_are p ids ≡ true → (s : SectionId) → p s ≡ true
+worked_out p e = every (λ s. p s ≡ true) (all_are_lem p ids e)
 
 abbrev pub among : List ℕ → ℕ → Bool
 among [] i = false
 among (x ∷ xs) i = cond (eqb i x) true (among xs i)
 
 -- what holds of each of them holds of what is among them
-pub among-each : (P : ℕ → Type 0) (xs : List ℕ) (i : ℕ) → All P xs → among xs i ≡ true → P i
-among-each P [] i h e = absurd (true≢false (sym e))
-among-each P (x ∷ xs) i h e = go (eqb i x) refl e (among-each P xs i h.1)
+pub among_each : (P : ℕ → Type 0) (xs : List ℕ) (i : ℕ) → All P xs → among xs i ≡ true → P i
+among_each P [] i h e = absurd (true≢false (sym e))
+among_each P (x ∷ xs) i h e = go (eqb i x) refl e (among_each P xs i h.1)
   where
     go : (t : Bool) → eqb i x ≡ t → cond t true (among xs i) ≡ true → (among xs i ≡ true → P i) → P i
     go true q e f = subst P (sym (eqb-true i x q)) h.0
     go false q e f = f e
 
-pub id-among : (s : SectionId) → among sections (id_of s) ≡ true
-id-among = worked-out (λ s. among sections (id_of s)) refl
+pub id_among : (s : SectionId) → among sections (id_of s) ≡ true
+id_among = worked_out (λ s. among sections (id_of s)) refl
 
 -- an id is a byte
-pub id-small : (s : SectionId) → id_of s < 256
-id-small s = ltb-true (id_of s) 256 (worked-out (λ s. ltb (id_of s) 256) refl s)
+pub id_small : (s : SectionId) → id_of s < 256
+id_small s = ltb-true (id_of s) 256 (worked_out (λ s. ltb (id_of s) 256) refl s)
 
 -- the section of an id is found by it
-pub id-full : (s : SectionId) → find id_of ids (id_of s) ≡ some s
-id-full = every (λ s. find id_of ids (id_of s) ≡ some s) (refl, (refl, (refl, (refl, (refl, tt)))))
+pub id_full : (s : SectionId) → find id_of ids (id_of s) ≡ some s
+id_full = every (λ s. find id_of ids (id_of s) ≡ some s) (refl, (refl, (refl, (refl, (refl, tt)))))
 
 -- a number is a section's id, or no section's
-pub by-id : (i : ℕ) → ((s : SectionId) × (i ≡ id_of s)) ⊎ ((s : SectionId) → id_of s ≡ i → ⊥)
-by-id i = go (among sections i) refl
+pub by_id : (i : ℕ) → ((s : SectionId) × (i ≡ id_of s)) ⊎ ((s : SectionId) → id_of s ≡ i → ⊥)
+by_id i = go (among sections i) refl
   where
-    of-each : (xs : List SectionId) → All (λ i. (s : SectionId) × (i ≡ id_of s)) (map id_of xs)
-    of-each [] = tt
-    of-each (s ∷ xs) = ((s, refl), of-each xs)
+    of_each : (xs : List SectionId) → All (λ i. (s : SectionId) × (i ≡ id_of s)) (map id_of xs)
+    of_each [] = tt
+    of_each (s ∷ xs) = ((s, refl), of_each xs)
 
     go : (t : Bool) → among sections i ≡ t → ((s : SectionId) × (i ≡ id_of s)) ⊎ ((s : SectionId) → id_of s ≡ i → ⊥)
-    go true e = inl (among-each (λ i. (s : SectionId) × (i ≡ id_of s)) sections i (of-each ids) e)
-    go false e = inr (λ s z. true≢false (sym (id-among s) ∙ ap (among sections) z ∙ e))
+    go true e = inl (among_each (λ i. (s : SectionId) × (i ≡ id_of s)) sections i (of_each ids) e)
+    go false e = inr (λ s z. true≢false (sym (id_among s) ∙ ap (among sections) z ∙ e))

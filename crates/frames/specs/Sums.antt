@@ -12,9 +12,9 @@ abbrev pub distinct : List ℕ → Bool
 distinct [] = true
 distinct (i ∷ is) = cond (among is i) false (distinct is)
 
-pub sum-none : (is : List ℕ) → sum is (λ i. 0) ≡ 0
-sum-none [] = refl
-sum-none (i ∷ is) = omega (arith, sum-none is)
+pub sum_none : (is : List ℕ) → sum is (λ i. 0) ≡ 0
+sum_none [] = refl
+sum_none (i ∷ is) = omega (arith, sum_none is)
 
 pub sum_same : (is : List ℕ) (f g : ℕ → ℕ) → ((i : ℕ) → f i ≡ g i) → sum is f ≡ sum is g
 sum_same [] f g e = refl

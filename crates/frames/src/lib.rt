@@ -2,12 +2,12 @@
 ghost use Rattle.std.specs.Prelude.{◌≡◌, ◌+◌, ◌≤◌};
 ghost use Rattle.format.specs.Write.{Writes};
 ghost use Rattle.format.specs.Runs.{run};
-ghost use Rattle.frames.specs.Frames.{value_of, frame, itemMost};
+ghost use Rattle.frames.specs.Frames.{value_of, frame, item_most};
 ghost use Rattle.frames.specs.Ids.{id_of, sections, among};
-ghost use Rattle.frames.specs.Builder.{fresh, grownFor, storeMost, is_over, isFull, Within};
+ghost use Rattle.frames.specs.Builder.{fresh, grown_for, store_most, is_over, is_full, Within};
 ghost use Rattle.frames.specs.Place.{frame_at};
 ghost use Rattle.frames.specs.Tally.{tally_of};
-ghost use Rattle.frames.specs.Append.{headBytes};
+ghost use Rattle.frames.specs.Append.{head_bytes};
 
 use format::{Written, least};
 
@@ -31,8 +31,8 @@ impl State {
 
     // The state with the frame of an item of n bytes, in a store.
     pub fn grown(self, n: usize) -> Self
-        requires { self.used + n + 5 ≤ storeMost }
-        ensures { result ≡ grownFor self n }
+        requires { self.used + n + 5 ≤ store_most }
+        ensures { result ≡ grown_for self n }
     {
         Self {
             used: self.used + n + 5,
@@ -53,8 +53,8 @@ pub fn is_over(state: State, store: &[u8]) -> bool
 
 // Whether the frame of an item of n bytes has no room behind the room used.
 pub fn is_full(state: State, store: &[u8], n: usize) -> bool
-    requires { Within state store.now × (n ≤ itemMost) }
-    ensures { result ≡ isFull state store.now n }
+    requires { Within state store.now × (n ≤ item_most) }
+    ensures { result ≡ is_full state store.now n }
 {
     store.len() < state.used + n + 5
 }
@@ -85,7 +85,7 @@ impl SectionId {
 
 // A frame's head: the section id, and the item's length in four bytes, low first.
 pub fn put_head(id: u8, n: usize, out: &mut [u8]) -> Written
-    ensures { Writes (headBytes id n) out.old out.new result }
+    ensures { Writes (head_bytes id n) out.old out.new result }
 {
     let head = [
         id,

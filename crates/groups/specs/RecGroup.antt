@@ -4,22 +4,22 @@ use Rattle.std.specs.Prelude.{◌≡◌, refl, Bool, true, false, List, [], ◌�
 use Rattle.std.proofs.Common.{ap, ◌∙◌, arith}
 use Rattle.format.specs.Format.{Format}
 use Rattle.format.specs.Basic.{flag}
-use Rattle.format.specs.Alternatives.{Heads, is, heads-long}
-use Rattle.format.specs.Leads.{heads-led}
+use Rattle.format.specs.Alternatives.{Heads, is, heads_long}
+use Rattle.format.specs.Leads.{heads_led}
 use Rattle.format.specs.Told.{one}
 use Rattle.leb128.specs.Formats.{u32}
 use Rattle.texts.specs.Section.{Section, textless, tagged}
 use Rattle.parts.specs.Both.{behind}
-use Rattle.parts.specs.Listed.{each_same, locates-same, listed}
+use Rattle.parts.specs.Listed.{each_same, locates_same, listed}
 use Rattle.parts.specs.Chosen.{chosen}
 use Rattle.composites.specs.Composite.{func, array, struct, cont}
-use Rattle.prefixes.specs.Prefix.{supersLead, prefix-begins}
-use Rattle.subtypes.specs.SubType.{SubType, parts_of, subWords, subBytes, sharedBytes, shared-no-prefix, heads-shared}
-use Rattle.subtypes.specs.Agree.{sub-agree}
+use Rattle.prefixes.specs.Prefix.{supers_lead, prefix_begins}
+use Rattle.subtypes.specs.SubType.{SubType, parts_of, sub_words, sub_bytes, shared_bytes, shared_no_prefix, heads_shared}
+use Rattle.subtypes.specs.Agree.{sub_agree}
 
 -- a subtype holds no text
-abbrev pub subType : Section SubType SubType
-subType = textless subWords subBytes sub-agree
+abbrev pub sub_type : Section SubType SubType
+sub_type = textless sub_words sub_bytes sub_agree
 
 -- a group has any number of them
 abbrev pub GroupOf : Bool → Type 0
@@ -32,43 +32,43 @@ RecGroup = (group : Bool) × GroupOf group
 -- words, behind the 1: group flag, list of subtypes, exactly one if the flag is 0
 -- bytes: 4E, count, subtypes; or a subtype
 abbrev pub form : (group : Bool) → Section (GroupOf group) (GroupOf group)
-form false = tagged 1 subType
-form true = behind 0x4E (listed subType)
+form false = tagged 1 sub_type
+form true = behind 0x4E (listed sub_type)
 
 -- 4E begins no subtype
 abbrev pub is_group : List ℕ → Bool
 is_group [] = false
 is_group (x ∷ s) = is 0x4E x
 
-pub sub-no-4E : Heads subBytes (is 0x4E) false
-sub-no-4E s ok =
-    heads-led supersLead sharedBytes shared-no-prefix (is 0x4E) false (prefix-begins (is 0x4E) false refl refl)
-    (heads-shared (is 0x4E) false refl refl refl (elim [ func ↦ refl | array ↦ refl | struct ↦ refl | cont ↦ refl ])) (parts_of s) ok
+pub sub_no_4_e : Heads sub_bytes (is 0x4E) false
+sub_no_4_e s ok =
+    heads_led supers_lead shared_bytes shared_no_prefix (is 0x4E) false (prefix_begins (is 0x4E) false refl refl)
+    (heads_shared (is 0x4E) false refl refl refl (elim [ func ↦ refl | array ↦ refl | struct ↦ refl | cont ↦ refl ])) (parts_of s) ok
 
-pub group-told : (group : Bool) (x : GroupOf group) (r : List ℕ) → (form group).bytes.Ok x → is_group ((form group).bytes.print x ++ r) ≡ group
-group-told false x r ok = let (y, t, e, n) = sub-no-4E x ok in ap (λ (l : List ℕ). is_group (l ++ r)) e ∙ n
-group-told true x r ok = refl
+pub group_told : (group : Bool) (x : GroupOf group) (r : List ℕ) → (form group).bytes.Ok x → is_group ((form group).bytes.print x ++ r) ≡ group
+group_told false x r ok = let (y, t, e, n) = sub_no_4_e x ok in ap (λ (l : List ℕ). is_group (l ++ r)) e ∙ n
+group_told true x r ok = refl
 
-abbrev pub groupBytes : Format RecGroup
-groupBytes = one is_group (λ g. (form g).bytes) group-told
+abbrev pub group_bytes : Format RecGroup
+group_bytes = one is_group (λ g. (form g).bytes) group_told
 
-abbrev pub typeSection : Section RecGroup RecGroup
-typeSection = chosen flag (λ g. tt) form groupBytes (λ x. (λ h. h, λ h. h)) (λ x. refl)
+abbrev pub type_section : Section RecGroup RecGroup
+type_section = chosen flag (λ g. tt) form group_bytes (λ x. (λ h. h, λ h. h)) (λ x. refl)
 
 -- a record and its item are the same
-pub as-located : (n : ℕ) (g : RecGroup) → typeSection.locate n g ≡ g
-as-located n (false, x) = refl
-as-located n (true, xs) =
-    let e = locates-same subType (λ x. x) (λ n x. refl) (n + 1 + length (u32.print (length xs))) xs ∙ each_same (λ x. x) (λ x. refl) xs in
+pub as_located : (n : ℕ) (g : RecGroup) → type_section.locate n g ≡ g
+as_located n (false, x) = refl
+as_located n (true, xs) =
+    let e = locates_same sub_type (λ x. x) (λ n x. refl) (n + 1 + length (u32.print (length xs))) xs ∙ each_same (λ x. x) (λ x. refl) xs in
     λ i. (true, e i)
 
-pub as-resolved : (t : List ℕ) (g : RecGroup) → typeSection.resolve t g ≡ g
-as-resolved t (false, x) = refl
-as-resolved t (true, xs) = let e = each_same (λ x. x) (λ x. refl) xs in λ i. (true, e i)
+pub as_resolved : (t : List ℕ) (g : RecGroup) → type_section.resolve t g ≡ g
+as_resolved t (false, x) = refl
+as_resolved t (true, xs) = let e = each_same (λ x. x) (λ x. refl) xs in λ i. (true, e i)
 
 -- a subtype takes a word, and a byte, at least
-pub sub-words-long : (s : SubType) → subWords.Ok s → 0 < length (subWords.print s)
-sub-words-long s ok = omega arith
+pub sub_words_long : (s : SubType) → sub_words.Ok s → 0 < length (sub_words.print s)
+sub_words_long s ok = omega arith
 
-pub sub-bytes-long : (s : SubType) → subBytes.Ok s → 0 < length (subBytes.print s)
-sub-bytes-long = heads-long subBytes (is 0x4E) false sub-no-4E
+pub sub_bytes_long : (s : SubType) → sub_bytes.Ok s → 0 < length (sub_bytes.print s)
+sub_bytes_long = heads_long sub_bytes (is 0x4E) false sub_no_4_e

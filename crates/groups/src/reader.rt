@@ -3,8 +3,8 @@ ghost use Rattle.std.specs.Prelude.{◌≤◌, length};
 ghost use Rattle.format.specs.Loop.{Members};
 ghost use Rattle.parts.specs.Listed.{listed};
 ghost use Rattle.parts.specs.Reading.{Reading};
-ghost use Rattle.subtypes.specs.SubType.{subWords, subBytes};
-ghost use Rattle.groups.specs.RecGroup.{subType, typeSection};
+ghost use Rattle.subtypes.specs.SubType.{sub_words, sub_bytes};
+ghost use Rattle.groups.specs.RecGroup.{sub_type, type_section};
 
 use format::{Done, Walk, append_word};
 use numbers::ReadU32;
@@ -13,7 +13,7 @@ use subtypes::read_sub;
 // n subtypes.
 fn read_subs(n: usize, b: &[u8], at: usize, out: &mut [u32], s: Done) -> Walk
     requires { at ≤ length b.now }
-    ensures { Members subBytes subWords.print b.now at n out.old s out.new result }
+    ensures { Members sub_bytes sub_words.print b.now at n out.old s out.new result }
 {
     let mut t = s;
     let mut p = at;
@@ -31,7 +31,7 @@ fn read_subs(n: usize, b: &[u8], at: usize, out: &mut [u32], s: Done) -> Walk
 
 // A count larger than what is left is answered at once, since each subtype takes a byte.
 fn read_many(b: &[u8], at: usize, out: &mut [u32], s: Done) -> Walk
-    ensures { Reading (listed subType) b.now at out.old s out.new result }
+    ensures { Reading (listed sub_type) b.now at out.old s out.new result }
 {
     let ReadU32::Value(n, p) = numbers::decode_u32(b, at) else {
         return Walk::No;
@@ -45,7 +45,7 @@ fn read_many(b: &[u8], at: usize, out: &mut [u32], s: Done) -> Walk
 
 // Reads an item of the type section and appends the words of its record behind the 1.
 pub fn walk_bytes(b: &[u8], at: usize, out: &mut [u32], s: Done) -> Walk
-    ensures { Reading typeSection b.now at out.old s out.new result }
+    ensures { Reading type_section b.now at out.old s out.new result }
 {
     if b.len() <= at {
         return Walk::No;

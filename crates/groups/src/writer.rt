@@ -3,8 +3,8 @@ ghost use Rattle.std.specs.Prelude.{List, ℕ, ◌≤◌, length};
 ghost use Rattle.format.specs.Loop.{Members};
 ghost use Rattle.parts.specs.Listed.{listed};
 ghost use Rattle.parts.specs.Writing.{Writing};
-ghost use Rattle.subtypes.specs.SubType.{subWords, subBytes};
-ghost use Rattle.groups.specs.RecGroup.{subType, typeSection};
+ghost use Rattle.subtypes.specs.SubType.{sub_words, sub_bytes};
+ghost use Rattle.groups.specs.RecGroup.{sub_type, type_section};
 
 use format::{Done, Walk, append_byte};
 use numbers::append_u32;
@@ -13,7 +13,7 @@ use subtypes::walk_sub;
 // n subtypes.
 fn walk_subs(n: usize, words: &[u32], at: usize, out: &mut [u8], s: Done) -> Walk
     requires { at ≤ length words.now }
-    ensures { Members subWords subBytes.print words.now at n out.old s out.new result }
+    ensures { Members sub_words sub_bytes.print words.now at n out.old s out.new result }
 {
     let mut t = s;
     let mut p = at;
@@ -31,7 +31,7 @@ fn walk_subs(n: usize, words: &[u32], at: usize, out: &mut [u8], s: Done) -> Wal
 
 // A count larger than what is left is answered at once, since each subtype takes a word.
 fn walk_many(words: &[u32], at: usize, out: &mut [u8], s: Done) -> Walk
-    ensures { (t : List ℕ) → Writing (listed subType) t words.now at out.old s out.new result }
+    ensures { (t : List ℕ) → Writing (listed sub_type) t words.now at out.old s out.new result }
 {
     if words.len() <= at {
         return Walk::No;
@@ -46,7 +46,7 @@ fn walk_many(words: &[u32], at: usize, out: &mut [u8], s: Done) -> Walk
 
 // Reads the words of a type behind its 1 and appends its item: a subtype alone, or a group.
 pub fn walk_words(words: &[u32], at: usize, out: &mut [u8], s: Done) -> Walk
-    ensures { (t : List ℕ) → Writing typeSection t words.now at out.old s out.new result }
+    ensures { (t : List ℕ) → Writing type_section t words.now at out.old s out.new result }
 {
     if words.len() <= at {
         return Walk::No;

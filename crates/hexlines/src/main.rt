@@ -1,7 +1,7 @@
 // The hex-line program: each line of standard input is answered by one line of standard output.
 ghost use Rattle.std.specs.Prelude.{◌≡◌, ◌≤◌, length};
-ghost use Rattle.replies.specs.Input.{keptMost};
-ghost use Rattle.replies.specs.Run.{storeLong, bufferLong, longest, Ready, HearsAll};
+ghost use Rattle.replies.specs.Input.{kept_most};
+ghost use Rattle.replies.specs.Run.{store_long, buffer_long, longest, Ready, HearsAll};
 
 use libc::{STDERR_FILENO, STDIN_FILENO, STDOUT_FILENO};
 use replies::{Run, end_input, take_piece};
@@ -66,7 +66,7 @@ fn answer_all(
     buffer: &mut [u8],
     out: &mut [u8],
 ) -> Turn
-    requires { (length line.old ≡ keptMost) × (length store.old ≡ storeLong) × (length buffer.old ≡ bufferLong) × (longest ≤ length out.old) }
+    requires { (length line.old ≡ kept_most) × (length store.old ≡ store_long) × (length buffer.old ≡ buffer_long) × (longest ≤ length out.old) }
     ensures { result.run.at ≤ length out.new }
 {
     let state = State::new();

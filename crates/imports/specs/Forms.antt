@@ -61,11 +61,11 @@ forms = Single ∷ Compact1 ∷ Compact2 ∷ []
 pub form_small : (f : Form) → form_of f < 3
 form_small = elim [ Single ↦ lit< tt | Compact1 ↦ lit< tt | Compact2 ↦ lit< tt ]
 
-pub form-full : (f : Form) → find form_of forms (form_of f) ≡ some f
-form-full = elim [ Single ↦ refl | Compact1 ↦ refl | Compact2 ↦ refl ]
+pub form_full : (f : Form) → find form_of forms (form_of f) ≡ some f
+form_full = elim [ Single ↦ refl | Compact1 ↦ refl | Compact2 ↦ refl ]
 
-abbrev pub formWord : Format Form
-formWord = table 3 form_of forms form_small form-full
+abbrev pub form_word : Format Form
+form_word = table 3 form_of forms form_small form_full
 
 abbrev pub words : Format (Imports Span)
-words = dep formWord (λ f. (form f).words)
+words = dep form_word (λ f. (form f).words)

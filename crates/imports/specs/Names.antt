@@ -2,19 +2,19 @@
 use Rattle.std.specs.Prelude.{refl, List, [], ◌∷◌}
 use Rattle.texts.specs.Plain.{Names}
 use Rattle.texts.specs.declared.Span.{Span}
-use Rattle.parts.specs.Listed.{textsOf}
+use Rattle.parts.specs.Listed.{texts_of}
 use Rattle.imports.specs.Forms.{Imports, MemberOf, member}
-use Rattle.imports.specs.Section.{importSection}
+use Rattle.imports.specs.Section.{import_section}
 use Rattle.imports.specs.declared.Form.TheVariants.{Single, Compact1, Compact2}
 use Rattle.imports.specs.declared.Member.{Member}
 use Rattle.imports.specs.declared.Member.TheVariants.{Import, Name}
 
-list-names : (m : Member) (l : List (MemberOf m Span)) → Names (textsOf (member m) l)
-list-names m [] = tt
-list-names Import (x ∷ l) = (refl, list-names Import l)
-list-names Name (x ∷ l) = (refl, list-names Name l)
+list_names : (m : Member) (l : List (MemberOf m Span)) → Names (texts_of (member m) l)
+list_names m [] = tt
+list_names Import (x ∷ l) = (refl, list_names Import l)
+list_names Name (x ∷ l) = (refl, list_names Name l)
 
-pub import-names : (x : Imports Span) → Names (importSection.texts x)
-import-names (Single, x) = (refl, (refl, tt))
-import-names (Compact1, x) = (refl, list-names Import x.1)
-import-names (Compact2, x) = (refl, list-names Name x.1.1)
+pub import_names : (x : Imports Span) → Names (import_section.texts x)
+import_names (Single, x) = (refl, (refl, tt))
+import_names (Compact1, x) = (refl, list_names Import x.1)
+import_names (Compact2, x) = (refl, list_names Name x.1.1)

@@ -3,8 +3,8 @@ use Rattle.std.specs.Prelude.{refl, List, ℕ}
 use Rattle.texts.specs.Section as section
 use Rattle.texts.specs.declared.Span.{Span}
 use Rattle.parts.specs.Chosen.{chosen}
-use Rattle.imports.specs.Forms.{form, Imports, formWord}
+use Rattle.imports.specs.Forms.{form, Imports, form_word}
 use Rattle.imports.specs.Compact.{bytes}
 
-abbrev pub importSection : section.Section (Imports Span) (Imports (List ℕ))
-importSection = chosen formWord (λ f. tt) form bytes (λ x. (λ h. h, λ h. h)) (λ x. refl)
+abbrev pub import_section : section.Section (Imports Span) (Imports (List ℕ))
+import_section = chosen form_word (λ f. tt) form bytes (λ x. (λ h. h, λ h. h)) (λ x. refl)

@@ -1,7 +1,7 @@
 // Reading imports: what begins at a place of some bytes, and its words.
 ghost use Rattle.std.specs.Prelude.{◌≡◌, ◌∷◌, ◌≤◌, length, drop};
 ghost use Rattle.format.specs.Count.{Appends};
-ghost use Rattle.texts.specs.Judge.{textMost};
+ghost use Rattle.texts.specs.Judge.{text_most};
 ghost use Rattle.texts.specs.Spans.{span};
 ghost use Rattle.parts.specs.Both.{both};
 ghost use Rattle.parts.specs.Listed.{listed};
@@ -10,8 +10,8 @@ ghost use Rattle.parts.specs.ListWalks.{MembersRead};
 ghost use Rattle.imports.specs.Entity.{entity};
 ghost use Rattle.imports.specs.Forms.{member};
 ghost use Rattle.imports.specs.declared.Member.TheVariants.{Import, Name};
-ghost use Rattle.imports.specs.Compact.{formAt};
-ghost use Rattle.imports.specs.Section.{importSection};
+ghost use Rattle.imports.specs.Compact.{form_at};
+ghost use Rattle.imports.specs.Section.{import_section};
 
 use crate::{Form, Member};
 use format::{Done, Walk, append_word};
@@ -43,7 +43,7 @@ fn read_entity(b: &[u8], at: usize, out: &mut [u32], s: Done) -> Walk
 
 // A name, and its entity.
 fn read_import(b: &[u8], at: usize, out: &mut [u32], s: Done) -> Walk
-    requires { length b.now ≤ textMost }
+    requires { length b.now ≤ text_most }
     ensures { Reading (member Import) b.now at out.old s out.new result }
 {
     let Walk::Got(p, t) = read_name(b, at, out, s) else {
@@ -53,7 +53,7 @@ fn read_import(b: &[u8], at: usize, out: &mut [u32], s: Done) -> Walk
 }
 
 fn read_member(m: Member, b: &[u8], at: usize, out: &mut [u32], s: Done) -> Walk
-    requires { length b.now ≤ textMost }
+    requires { length b.now ≤ text_most }
     ensures { Reading (member m) b.now at out.old s out.new result }
 {
     match m {
@@ -64,7 +64,7 @@ fn read_member(m: Member, b: &[u8], at: usize, out: &mut [u32], s: Done) -> Walk
 
 // n members.
 fn read_members(m: Member, n: usize, b: &[u8], at: usize, out: &mut [u32], s: Done) -> Walk
-    requires { (at ≤ length b.now) × (length b.now ≤ textMost) }
+    requires { (at ≤ length b.now) × (length b.now ≤ text_most) }
     ensures { MembersRead (member m) b.now at n out.old s out.new result }
 {
     let mut t = s;
@@ -83,7 +83,7 @@ fn read_members(m: Member, n: usize, b: &[u8], at: usize, out: &mut [u32], s: Do
 
 // A count larger than what is left is answered at once, since each member takes a byte.
 fn read_list(m: Member, b: &[u8], at: usize, out: &mut [u32], s: Done) -> Walk
-    requires { length b.now ≤ textMost }
+    requires { length b.now ≤ text_most }
     ensures { Reading (listed (member m)) b.now at out.old s out.new result }
 {
     let ReadU32::Value(n, p) = numbers::decode_u32(b, at) else {
@@ -98,7 +98,7 @@ fn read_list(m: Member, b: &[u8], at: usize, out: &mut [u32], s: Done) -> Walk
 
 // An entity, and a list of names, behind 00 7E.
 fn read_compact2(b: &[u8], at: usize, out: &mut [u32], s: Done) -> Walk
-    requires { length b.now ≤ textMost }
+    requires { length b.now ≤ text_most }
     ensures { Reading (both entity (listed (member Name))) b.now at out.old s out.new result }
 {
     let Walk::Got(p, t) = read_entity(b, at, out, s) else {
@@ -109,7 +109,7 @@ fn read_compact2(b: &[u8], at: usize, out: &mut [u32], s: Done) -> Walk
 
 // The form of what stands behind a module's name: 00 7F, 00 7E, or a single import.
 fn form_at(b: &[u8], at: usize) -> Form
-    ensures { result ≡ formAt (drop at b.now) }
+    ensures { result ≡ form_at (drop at b.now) }
 {
     if b.len() <= at {
         return Form::Single;
@@ -137,8 +137,8 @@ fn append_head(form: u32, v: Span, out: &mut [u32], s: Done) -> Done
 
 // Reads the item at a place and appends the words behind the 2.
 pub fn walk_bytes(b: &[u8], at: usize, out: &mut [u32], s: Done) -> Walk
-    requires { length b.now ≤ textMost }
-    ensures { Reading importSection b.now at out.old s out.new result }
+    requires { length b.now ≤ text_most }
+    ensures { Reading import_section b.now at out.old s out.new result }
 {
     let TextAt::At(v) = find_name(b, at) else {
         return Walk::No;

@@ -5,11 +5,11 @@ ghost use Rattle.format.specs.Walk.{Walks};
 ghost use Rattle.parts.specs.Listed.{listed};
 ghost use Rattle.parts.specs.Writing.{Writing};
 ghost use Rattle.parts.specs.ListWalks.{MembersWritten};
-ghost use Rattle.imports.specs.Entity.{entityWords, entityBytes};
+ghost use Rattle.imports.specs.Entity.{entity_words, entity_bytes};
 ghost use Rattle.imports.specs.Forms.{rest, member};
 ghost use Rattle.imports.specs.declared.Form.TheVariants.{Compact1, Compact2};
 ghost use Rattle.imports.specs.declared.Member.TheVariants.{Import};
-ghost use Rattle.imports.specs.Section.{importSection};
+ghost use Rattle.imports.specs.Section.{import_section};
 
 use crate::Member;
 use format::{Done, Walk, append_byte};
@@ -20,7 +20,7 @@ use words::walk_index;
 
 // The sort, and what it is a sort of.
 fn walk_entity(words: &[u32], at: usize, out: &mut [u8], s: Done) -> Walk
-    ensures { Walks entityWords entityBytes.print silent words.now at out.old s out.new result }
+    ensures { Walks entity_words entity_bytes.print silent words.now at out.old s out.new result }
 {
     if words.len() <= at {
         return Walk::No;
@@ -127,7 +127,7 @@ fn walk_compact2(words: &[u32], at: usize, text: &[u8], out: &mut [u8], s: Done)
 
 // Reads the words behind the 2 and appends the item.
 pub fn walk_words(words: &[u32], at: usize, text: &[u8], out: &mut [u8], s: Done) -> Walk
-    ensures { Writing importSection text.now words.now at out.old s out.new result }
+    ensures { Writing import_section text.now words.now at out.old s out.new result }
 {
     if words.len() <= at {
         return Walk::No;

@@ -5,16 +5,16 @@ use Rattle.frames.specs.declared.SectionId.{SectionId}
 use Rattle.frames.specs.declared.SectionId.TheVariants.{Types, Imports, Tables, Elements, Data}
 use Rattle.texts.specs.Section.{Section}
 use Rattle.texts.specs.declared.Span.{Span}
-use Rattle.groups.specs.RecGroup.{typeSection, as-located, as-resolved}
+use Rattle.groups.specs.RecGroup.{type_section, as_located, as_resolved}
 use Rattle.imports.specs.Forms.{Imports as ImportsOf}
-use Rattle.imports.specs.Section.{importSection}
-use Rattle.tables.specs.Table.{Table, tableSection}
+use Rattle.imports.specs.Section.{import_section}
+use Rattle.tables.specs.Table.{Table, table_section}
 use Rattle.elements.specs.Segment as elements
 use Rattle.elements.specs.Item as flagged
-use Rattle.elements.specs.Section.{elementSection}
+use Rattle.elements.specs.Section.{element_section}
 use Rattle.elements.specs.Exception as elementBack
 use Rattle.elements.specs.Filled as elementFilled
-use Rattle.data.specs.Segment.{Segment, dataSection}
+use Rattle.data.specs.Segment.{Segment, data_section}
 
 pub record Family : Type 1 where
   pub Body : Type 0 → Type 0
@@ -23,59 +23,59 @@ pub record Family : Type 1 where
   -- each span of a record as what it holds in the text
   pub filled : List ℕ → Body Span → Body (List ℕ)
   -- the record of an item, with its bytes
-  pub recordOf : Item → Body (List ℕ)
+  pub record_of : Item → Body (List ℕ)
   -- what of a record comes back: itself, or the exception
   pub exception : Body (List ℕ) → Body (List ℕ)
   -- what is read of an item that begins the bytes holds, in them, the item's bytes
-  pub read-filled : (q r : List ℕ) (x : Item) → section.bytes.Ok x → filled (q ++ (section.bytes.print x ++ r)) (section.locate (length q) x) ≡ recordOf x
+  pub read_filled : (q r : List ℕ) (x : Item) → section.bytes.Ok x → filled (q ++ (section.bytes.print x ++ r)) (section.locate (length q) x) ≡ record_of x
   -- and the item of an added record those that the record holds, but for the exception
-  pub added-filled : (t : List ℕ) (a : Body Span) → recordOf (section.resolve t a) ≡ exception (filled t a)
+  pub added_filled : (t : List ℕ) (a : Body Span) → record_of (section.resolve t a) ≡ exception (filled t a)
 
 -- a section whose items are its records over bytes: they come back as they are
-abbrev pub plainFamily : (B : Type 0 → Type 0) → Section (B Span) (B (List ℕ)) → Family
-plainFamily B S =
+abbrev pub plain_family : (B : Type 0 → Type 0) → Section (B Span) (B (List ℕ)) → Family
+plain_family B S =
     record {
       Body = B;
       Item = B (List ℕ);
       section = S;
       filled = S.resolve;
-      recordOf = λ x. x;
+      record_of = λ x. x;
       exception = λ a. a;
-      read-filled = S.located;
-      added-filled = λ t a. refl;
+      read_filled = S.located;
+      added_filled = λ t a. refl;
     }
 
 -- one whose records hold no text: they are its items
-abbrev pub textlessFamily : {A : Type 0} (S : Section A A) → ((n : ℕ) (x : A) → S.locate n x ≡ x) → ((t : List ℕ) (a : A) → S.resolve t a ≡ a) → Family
-textlessFamily {A} S located resolved =
+abbrev pub textless_family : {A : Type 0} (S : Section A A) → ((n : ℕ) (x : A) → S.locate n x ≡ x) → ((t : List ℕ) (a : A) → S.resolve t a ≡ a) → Family
+textless_family {A} S located resolved =
     record {
       Body = λ T. A;
       Item = A;
       section = S;
       filled = λ t a. a;
-      recordOf = λ x. x;
+      record_of = λ x. x;
       exception = λ a. a;
-      read-filled = λ q r x ok. located (length q) x;
-      added-filled = resolved;
+      read_filled = λ q r x ok. located (length q) x;
+      added_filled = resolved;
     }
 
 -- elements: the one exception
-abbrev pub elementFamily : Family
-elementFamily =
+abbrev pub element_family : Family
+element_family =
     record {
       Body = elements.Segment;
       Item = flagged.Item (List ℕ);
-      section = elementSection;
+      section = element_section;
       filled = elementFilled.filled;
-      recordOf = elementBack.recordOf;
+      record_of = elementBack.record_of;
       exception = elementBack.exception;
-      read-filled = elementFilled.read-filled;
-      added-filled = elementFilled.added-filled;
+      read_filled = elementFilled.read_filled;
+      added_filled = elementFilled.added_filled;
     }
 
 abbrev pub family : SectionId → Family
-family Types = textlessFamily typeSection as-located as-resolved
-family Imports = plainFamily ImportsOf importSection
-family Tables = plainFamily Table tableSection
-family Elements = elementFamily
-family Data = plainFamily Segment dataSection
+family Types = textless_family type_section as_located as_resolved
+family Imports = plain_family ImportsOf import_section
+family Tables = plain_family Table table_section
+family Elements = element_family
+family Data = plain_family Segment data_section

@@ -7,79 +7,79 @@ use Rattle.format.specs.Write.{over}
 use Rattle.frames.specs.Ids.{id_of}
 use Rattle.frames.specs.declared.SectionId.{SectionId}
 use Rattle.frames.specs.declared.SectionId.TheVariants.{Data}
-use Rattle.texts.specs.Judge.{itemMost, recordIn, why, itemIn, record-inv, fine}
+use Rattle.texts.specs.Judge.{item_most, record_in, why, item_in, record_inv, fine}
 use Rattle.texts.specs.declared.Span.{Span}
 use Rattle.items.specs.Record.{Record, section, words, records}
 use Rattle.items.specs.declared.Judged.{Judged}
 use Rattle.items.specs.declared.Judged.TheVariants.{Refused, Length}
 
 -- its section; where there is no record, any: no add of one is accepted (2), so nothing depends on it
-abbrev pub sectionOr : Option (Record Span) → SectionId
-sectionOr none = Data
-sectionOr (some x) = x.0
+abbrev pub section_or : Option (Record Span) → SectionId
+section_or none = Data
+section_or (some x) = x.0
 
-abbrev pub sectionIn : List ℕ → SectionId
-sectionIn w = sectionOr (recordIn records w)
+abbrev pub section_in : List ℕ → SectionId
+section_in w = section_or (record_in records w)
 
 -- a record's first word is its section's id
-pub first_word : (w t : List ℕ) → why records w t ≡ 0 → (0 < length w) × (get_or w 0 0 ≡ id_of (sectionIn w))
+pub first_word : (w t : List ℕ) → why records w t ≡ 0 → (0 < length w) × (get_or w 0 0 ≡ id_of (section_in w))
 unfolding words
 first_word w t e =
     let f = fine records w t e in
-    let p = record-inv records w f.value f.is in
+    let p = record_inv records w f.value f.is in
     let q : w ≡ id_of f.value.0 ∷ (section f.value.0).words.print f.value.1 = p.1 in
-    (omega (arith, ap length q), ap (λ (l : List ℕ). get_or l 0 0) q ∙ ap (λ (o : Option (Record Span)). id_of (sectionOr o)) (sym f.is))
+    (omega (arith, ap length q), ap (λ (l : List ℕ). get_or l 0 0) q ∙ ap (λ (o : Option (Record Span)). id_of (section_or o)) (sym f.is))
 
 -- the number, or the item's length
-unfoldable pub judgedOf : List ℕ → List ℕ → Judged
-judgedOf w t = cond (eqb (why records w t) 0) (Length (length (itemIn records w t))) (Refused (why records w t))
+unfoldable pub judged_of : List ℕ → List ℕ → Judged
+judged_of w t = cond (eqb (why records w t) 0) (Length (length (item_in records w t))) (Refused (why records w t))
 
-pub refused-is : (w t : List ℕ) (k : ℕ) → (k ≡ 0 → ⊥) → why records w t ≡ k → Refused k ≡ judgedOf w t
-unfolding judgedOf
-refused-is w t k z e = rw (e, ne_eqb k 0 z)
+pub refused_is : (w t : List ℕ) (k : ℕ) → (k ≡ 0 → ⊥) → why records w t ≡ k → Refused k ≡ judged_of w t
+unfolding judged_of
+refused_is w t k z e = rw (e, ne_eqb k 0 z)
 
-pub length-is : (w t : List ℕ) (n : ℕ) → why records w t ≡ 0 → length (itemIn records w t) ≡ n → Length n ≡ judgedOf w t
-unfolding judgedOf
-length-is w t n z e = rw (z, e)
+pub length_is : (w t : List ℕ) (n : ℕ) → why records w t ≡ 0 → length (item_in records w t) ≡ n → Length n ≡ judged_of w t
+unfolding judged_of
+length_is w t n z e = rw (z, e)
 
 -- what an answer tells
-told : (w t : List ℕ) (b : Bool) → eqb (why records w t) 0 ≡ b → judgedOf w t ≡ cond b (Length (length (itemIn records w t))) (Refused (why records w t))
-unfolding judgedOf
+told : (w t : List ℕ) (b : Bool) → eqb (why records w t) 0 ≡ b → judged_of w t ≡ cond b (Length (length (item_in records w t))) (Refused (why records w t))
+unfolding judged_of
 told w t b e = rw e
 
-pub told-refused : (w t : List ℕ) (k : ℕ) → judgedOf w t ≡ Refused k → (why records w t ≡ k) × (k ≡ 0 → ⊥)
-told-refused w t k e = go (eqb (why records w t) 0) refl
+pub told_refused : (w t : List ℕ) (k : ℕ) → judged_of w t ≡ Refused k → (why records w t ≡ k) × (k ≡ 0 → ⊥)
+told_refused w t k e = go (eqb (why records w t) 0) refl
   where
     go : (b : Bool) → eqb (why records w t) 0 ≡ b → (why records w t ≡ k) × (k ≡ 0 → ⊥)
     go true p = let q = sym (told w t true p) ∙ e in let z : ◌≡◌ {A = ℕ} 0 1 = cc in absurd (omega arith)
     go false p = let q = sym (told w t false p) ∙ e in let r : why records w t ≡ k = cc in (r, λ z. eqb-false (why records w t) 0 p (r ∙ z))
 
-pub told-length : (w t : List ℕ) (n : ℕ) → judgedOf w t ≡ Length n → (why records w t ≡ 0) × (length (itemIn records w t) ≡ n) × (n ≤ itemMost)
-told-length w t n e = go (eqb (why records w t) 0) refl
+pub told_length : (w t : List ℕ) (n : ℕ) → judged_of w t ≡ Length n → (why records w t ≡ 0) × (length (item_in records w t) ≡ n) × (n ≤ item_most)
+told_length w t n e = go (eqb (why records w t) 0) refl
   where
-    go : (b : Bool) → eqb (why records w t) 0 ≡ b → (why records w t ≡ 0) × (length (itemIn records w t) ≡ n) × (n ≤ itemMost)
+    go : (b : Bool) → eqb (why records w t) 0 ≡ b → (why records w t ≡ 0) × (length (item_in records w t) ≡ n) × (n ≤ item_most)
     go false p = let q = sym (told w t false p) ∙ e in let z : ◌≡◌ {A = ℕ} 0 1 = cc in absurd (omega arith)
     go true p =
         let q = sym (told w t true p) ∙ e in
-        let r : length (itemIn records w t) ≡ n = cc in
+        let r : length (item_in records w t) ≡ n = cc in
         let z = eqb-true (why records w t) 0 p in
         let f = fine records w t z in
-        let l : length (itemIn records w t) ≤ itemMost = rw f.is f.fits in
+        let l : length (item_in records w t) ≤ item_most = rw f.is f.fits in
         (z, r, omega arith)
 
 -- the item stands at the front, where nothing is drawn and there is room
 abbrev pub Puts : List ℕ → List ℕ → List ℕ → List ℕ → Type 0
-Puts w t old new = why records w t ≡ 0 → length (itemIn records w t) ≤ length old → new ≡ over (itemIn records w t) old
+Puts w t old new = why records w t ≡ 0 → length (item_in records w t) ≤ length old → new ≡ over (item_in records w t) old
 
 -- judging: the answer, and what is left in the room that was lent. A record, so that `search` finds it among what is known
 pub record Judges (w t old new : List ℕ) (r : Judged) : Type 0 where
-  pub is : r ≡ judgedOf w t
+  pub is : r ≡ judged_of w t
   pub puts : Puts w t old new
 
 -- n is its length, and it stands at the front of what was tried, where there was room for it
 abbrev pub Tried : List ℕ → List ℕ → ℕ → List ℕ → Type 0
-Tried w t n s = (length (itemIn records w t) ≡ n) × (n ≤ length s → take n s ≡ itemIn records w t)
+Tried w t n s = (length (item_in records w t) ≡ n) × (n ≤ length s → take n s ≡ item_in records w t)
 
 -- so judging leaves it
-pub judged-tried : (w t : List ℕ) (n : ℕ) (old new : List ℕ) → why records w t ≡ 0 → length (itemIn records w t) ≡ n → length new ≡ length old → Puts w t old new → Tried w t n new
-judged-tried w t n old new z e l p = (e, λ h. rw (p z (omega (arith, h, l, e))) (take_at (itemIn records w t) (drop (length (itemIn records w t)) old) n e))
+pub judged_tried : (w t : List ℕ) (n : ℕ) (old new : List ℕ) → why records w t ≡ 0 → length (item_in records w t) ≡ n → length new ≡ length old → Puts w t old new → Tried w t n new
+judged_tried w t n old new z e l p = (e, λ h. rw (p z (omega (arith, h, l, e))) (take_at (item_in records w t) (drop (length (item_in records w t)) old) n e))

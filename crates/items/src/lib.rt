@@ -2,8 +2,8 @@
 ghost use Rattle.std.specs.Prelude.{◌≤◌, length};
 ghost use Rattle.format.specs.Count.{silent};
 ghost use Rattle.format.specs.Walk.{Walking, Walks};
-ghost use Rattle.texts.specs.Judge.{textMost};
-ghost use Rattle.items.specs.Record.{words as words_of, item_of, low_of, beginsIn, recordOf};
+ghost use Rattle.texts.specs.Judge.{text_most};
+ghost use Rattle.items.specs.Record.{words as words_of, item_of, low_of, begins_in, record_of};
 ghost use Rattle.items.specs.Judging.{Judges, Tried, Puts};
 ghost use Rattle.items.specs.Start.{Starts};
 
@@ -38,8 +38,8 @@ pub fn walk_words(words: &[u32], text: &[u8], out: &mut [u8], s: Done) -> Walk
 
 // Reads an item and appends its record's words.
 pub fn walk_bytes(id: u8, bytes: &[u8], out: &mut [u32], s: Done) -> Walk
-    requires { length bytes.now ≤ textMost }
-    ensures { Walking (beginsIn id) recordOf silent bytes.now 0 out.old s out.new result }
+    requires { length bytes.now ≤ text_most }
+    ensures { Walking (begins_in id) record_of silent bytes.now 0 out.old s out.new result }
 {
     let t = append_word(id as u32, out, s);
     match id {

@@ -14,18 +14,18 @@ use lib.IntN.{ℤ}
 use lib.ListN.{length, drop, get_or, length-append, length-drop}
 use lib.Pow.{pow_pos}
 use Rattle.format.specs.Parsed.{Parsed, fail, got, map, map-map}
-use Rattle.format.specs.Read.{place_at, drop_more, drop-end}
+use Rattle.format.specs.Read.{place_at, drop_more, drop_end}
 use Rattle.format.specs.Write.{fits_or}
 use Rattle.leb128.specs.Leb.{within, leb, last_of, join, wide, short, taken}
-use Rattle.leb128.specs.LebLaws.{wide-last, wide-over, wide-more, wide-long, wide_form}
-use Rattle.leb128.specs.Parts.{joinBy, parts_of, short_at, WholeByte, CutByte}
+use Rattle.leb128.specs.LebLaws.{wide_last, wide_over, wide_more, wide_long, wide_form}
+use Rattle.leb128.specs.Parts.{join_by, parts_of, short_at, WholeByte, CutByte}
 use Rattle.leb128.specs.declared.Parts.{Parts}
 use Rattle.leb128.specs.declared.Parts.TheVariants.{Nothing}
-use Rattle.leb128.proofs.Reading.{join-start, join_more, below, behind, within-whole}
+use Rattle.leb128.proofs.Reading.{join_start, join_more, below, behind, within_whole}
 
 -- of a number that begins at `at`, k bits are read, v, and the rest stands from i on
 pub record Reads (s : Bool) (N : ℕ) (xs : List ℕ) (at v k i : ℕ) : Type 0 where
-  pub rest : wide s N (drop at xs) ≡ map (λ z. joinBy k z v) (wide s (N - k) (drop i xs))
+  pub rest : wide s N (drop at xs) ≡ map (λ z. join_by k z v) (wide s (N - k) (drop i xs))
   pub small : v < 2 ^ k
   pub room : k < N
   pub after : at ≤ i
@@ -33,22 +33,22 @@ pub record Reads (s : Bool) (N : ℕ) (xs : List ℕ) (at v k i : ℕ) : Type 0 
   pub cut : 1 ≤ N % 7
   pub few : N ≤ 64
 
-map-start : (m : Parsed ℤ) → m ≡ map (λ z. joinBy 0 z 0) m
-map-start fail = refl
-map-start (got z r) = ap (λ (y : ℤ). got y r) (sym (join-start z))
+map_start : (m : Parsed ℤ) → m ≡ map (λ z. join_by 0 z 0) m
+map_start fail = refl
+map_start (got z r) = ap (λ (y : ℤ). got y r) (sym (join_start z))
 
 map_same : (f g : ℤ → ℤ) → ((z : ℤ) → f z ≡ g z) → (m : Parsed ℤ) → map f m ≡ map g m
 map_same f g e fail = refl
 map_same f g e (got z r) = ap (λ (y : ℤ). got y r) (e z)
 
-pub wide-none : (s : Bool) (N : ℕ) → wide s N [] ≡ fail
+pub wide_none : (s : Bool) (N : ℕ) → wide s N [] ≡ fail
 unfolding wide
-wide-none s N = refl
+wide_none s N = refl
 
-pub reads-start : {s : Bool} {N : ℕ} {xs : List ℕ} {at : ℕ} → 1 ≤ N % 7 → N ≤ 64 → Reads s N xs at 0 0 at
-reads-start {s} {N} {xs} {at} h l =
+pub reads_start : {s : Bool} {N : ℕ} {xs : List ℕ} {at : ℕ} → 1 ≤ N % 7 → N ≤ 64 → Reads s N xs at 0 0 at
+reads_start {s} {N} {xs} {at} h l =
     let e : N - 0 ≡ N = omega arith in
-    record { rest = rw e (map-start (wide s N (drop at xs))); small = pow_pos 0; room = omega arith; after = omega arith; groups = omega arith; cut = h; few = l }
+    record { rest = rw e (map_start (wide s N (drop at xs))); small = pow_pos 0; room = omega arith; after = omega arith; groups = omega arith; cut = h; few = l }
 
 -- nothing is read
 none : (s : Bool) (N : ℕ) (xs : List ℕ) (at : ℕ) → wide s N (drop at xs) ≡ fail → Nothing ≡ parts_of xs (short s N (drop at xs))
@@ -80,14 +80,14 @@ found_at s N xs at p z e h l = ⊎_elim few all (fits_or (7 * length (leb s z)) 
 module _ {s : Bool} {N : ℕ} {xs : List ℕ} {at v k i : ℕ} (R : Reads s N xs at v k i) where
   -- no byte is left
   pub reads_end : length xs ≤ i → Nothing ≡ parts_of xs (short s N (drop at xs))
-  reads_end h = none s N xs at (R.rest ∙ rw (drop-end xs i h, wide-none s (N - k)))
+  reads_end h = none s N xs at (R.rest ∙ rw (drop_end xs i h, wide_none s (N - k)))
 
   -- a last byte
   reads-last : i < length xs → get_or xs i 0 < 128 → within s (N - k) (last_of s (get_or xs i 0)) ≡ true
-      → short_at s k (joinBy k (last_of s (get_or xs i 0)) v) (i + 1) ≡ parts_of xs (short s N (drop at xs))
+      → short_at s k (join_by k (last_of s (get_or xs i 0)) v) (i + 1) ≡ parts_of xs (short s N (drop at xs))
   reads-last b h w =
-      let z = joinBy k (last_of s (get_or xs i 0)) v in
-      let e : wide s N (drop at xs) ≡ got z (drop (i + 1) xs) = R.rest ∙ rw (drop_more xs i b, wide-last s (N - k) (get_or xs i 0) (drop (i + 1) xs) h w) in
+      let z = join_by k (last_of s (get_or xs i 0)) v in
+      let e : wide s N (drop at xs) ≡ got z (drop (i + 1) xs) = R.rest ∙ rw (drop_more xs i b, wide_last s (N - k) (get_or xs i 0) (drop (i + 1) xs) h w) in
       let g : 7 * (i + 1 - at - 1) ≡ k = omega (arith, R.groups, R.after) in
       rw g at (found_at s N xs at (i + 1) z e (omega arith) (omega (arith, R.after)))
 
@@ -109,14 +109,14 @@ module _ {s : Bool} {N : ℕ} {xs : List ℕ} {at v k i : ℕ} (R : Reads s N xs
       same : get_or xs i 0 % 128 ≡ get_or xs i 0
       same = omega arith
 
-      pub whole-asked : WholeByte k (get_or xs i 0) (bit_or v (bit_and (get_or xs i 0) 127 * 2 ^ k % 2 ^ 64))
-      whole-asked = record { fits = omega (arith, R.few, R.cut, R.groups); groups = omega (arith, R.groups); small = h; is = rw (put, same) (digits_div (get_or xs i 0) R.small) }
+      pub whole_asked : WholeByte k (get_or xs i 0) (bit_or v (bit_and (get_or xs i 0) 127 * 2 ^ k % 2 ^ 64))
+      whole_asked = record { fits = omega (arith, R.few, R.cut, R.groups); groups = omega (arith, R.groups); small = h; is = rw (put, same) (digits_div (get_or xs i 0) R.small) }
 
-      pub whole-read : i < length xs → {r : Parts} → r ≡ short_at s k (joinBy k (last_of s (get_or xs i 0)) (bit_or v (bit_and (get_or xs i 0) 127 * 2 ^ k % 2 ^ 64) % 2 ^ k)) (i + 1)
+      pub whole_read : i < length xs → {r : Parts} → r ≡ short_at s k (join_by k (last_of s (get_or xs i 0)) (bit_or v (bit_and (get_or xs i 0) 127 * 2 ^ k % 2 ^ 64) % 2 ^ k)) (i + 1)
           → r ≡ parts_of xs (short s N (drop at xs))
-      whole-read b e =
+      whole_read b e =
           let low : bit_or v (bit_and (get_or xs i 0) 127 * 2 ^ k % 2 ^ 64) % 2 ^ k ≡ v = rw (put, same) (digits_mod (get_or xs i 0) R.small) in
-          e ∙ ap (λ (x : ℕ). short_at s k (joinBy k (last_of s (get_or xs i 0)) x) (i + 1)) low ∙ reads-last b h (within-whole s (N - k) (get_or xs i 0) h (omega arith))
+          e ∙ ap (λ (x : ℕ). short_at s k (join_by k (last_of s (get_or xs i 0)) x) (i + 1)) low ∙ reads-last b h (within_whole s (N - k) (get_or xs i 0) h (omega arith))
 
     -- one group more
     pub reads_more : i < length xs → ((j : ℕ) → Fits w8 (get_or xs j 0)) → 128 ≤ get_or xs i 0 → Reads s N xs at (bit_or v (bit_and (get_or xs i 0) 127 * 2 ^ k % 2 ^ 64)) (k + 7) (i + 1)
@@ -129,9 +129,9 @@ module _ {s : Bool} {N : ℕ} {xs : List ℕ} {at v k i : ℕ} (R : Reads s N xs
         (record {
           rest =
               R.rest
-              ∙ rw (drop_more xs i b, wide-more s (N - k) (get_or xs i 0) (drop (i + 1) xs) h g (omega (arith, R.cut, R.groups)), e)
-              (map-map (λ z. joinBy k z v) (λ z. join z d) (wide s (N - (k + 7)) (drop (i + 1) xs))
-              ∙ map_same (λ z. joinBy k (join z d) v) (λ z. joinBy (k + 7) z (d * 2 ^ k + v)) (λ z. join_more k z d v (omega arith) R.small) (wide s (N - (k + 7)) (drop (i + 1) xs)));
+              ∙ rw (drop_more xs i b, wide_more s (N - k) (get_or xs i 0) (drop (i + 1) xs) h g (omega (arith, R.cut, R.groups)), e)
+              (map-map (λ z. join_by k z v) (λ z. join z d) (wide s (N - (k + 7)) (drop (i + 1) xs))
+              ∙ map_same (λ z. join_by k (join z d) v) (λ z. join_by (k + 7) z (d * 2 ^ k + v)) (λ z. join_more k z d v (omega arith) R.small) (wide s (N - (k + 7)) (drop (i + 1) xs)));
           small = below k d v (omega arith) R.small;
           room = omega (arith, R.cut, R.groups);
           after = omega (arith, R.after);
@@ -143,20 +143,20 @@ module _ {s : Bool} {N : ℕ} {xs : List ℕ} {at v k i : ℕ} (R : Reads s N xs
   -- the last group that the width allows
   module _ (cut : N < k + 7) where
     -- too many bytes
-    pub reads-long : i < length xs → 128 ≤ get_or xs i 0 → Nothing ≡ parts_of xs (short s N (drop at xs))
-    reads-long b h = none s N xs at (R.rest ∙ rw (drop_more xs i b, wide-long s (N - k) (get_or xs i 0) (drop (i + 1) xs) h (omega (arith, R.room))))
+    pub reads_long : i < length xs → 128 ≤ get_or xs i 0 → Nothing ≡ parts_of xs (short s N (drop at xs))
+    reads_long b h = none s N xs at (R.rest ∙ rw (drop_more xs i b, wide_long s (N - k) (get_or xs i 0) (drop (i + 1) xs) h (omega (arith, R.room))))
 
-    pub last-asked : get_or xs i 0 < 128 → CutByte (N - k) k (get_or xs i 0) v
-    last-asked h = record { some = omega (arith, R.room); cut = omega (arith, R.room); fits = omega (arith, R.room, R.few); groups = omega (arith, R.groups); below = R.small; small = h }
+    pub last_asked : get_or xs i 0 < 128 → CutByte (N - k) k (get_or xs i 0) v
+    last_asked h = record { some = omega (arith, R.room); cut = omega (arith, R.room); fits = omega (arith, R.room, R.few); groups = omega (arith, R.groups); below = R.small; small = h }
 
   pub bits_left : k ≤ N
   bits_left = omega (arith, R.room)
 
-  pub last-read : i < length xs → get_or xs i 0 < 128
-      → {r : Parts} → r ≡ cond (within s (N - k) (last_of s (get_or xs i 0))) (short_at s k (joinBy k (last_of s (get_or xs i 0)) v) (i + 1)) Nothing → r ≡ parts_of xs (short s N (drop at xs))
-  last-read b h e = e ∙ go (within s (N - k) (last_of s (get_or xs i 0))) refl
+  pub last_read : i < length xs → get_or xs i 0 < 128
+      → {r : Parts} → r ≡ cond (within s (N - k) (last_of s (get_or xs i 0))) (short_at s k (join_by k (last_of s (get_or xs i 0)) v) (i + 1)) Nothing → r ≡ parts_of xs (short s N (drop at xs))
+  last_read b h e = e ∙ go (within s (N - k) (last_of s (get_or xs i 0))) refl
     where
       go : (t : Bool) → within s (N - k) (last_of s (get_or xs i 0)) ≡ t
-          → cond t (short_at s k (joinBy k (last_of s (get_or xs i 0)) v) (i + 1)) Nothing ≡ parts_of xs (short s N (drop at xs))
+          → cond t (short_at s k (join_by k (last_of s (get_or xs i 0)) v) (i + 1)) Nothing ≡ parts_of xs (short s N (drop at xs))
       go true w = reads-last b h w
-      go false w = none s N xs at (R.rest ∙ rw (drop_more xs i b, wide-over s (N - k) (get_or xs i 0) (drop (i + 1) xs) h w))
+      go false w = none s N xs at (R.rest ∙ rw (drop_more xs i b, wide_over s (N - k) (get_or xs i 0) (drop (i + 1) xs) h w))

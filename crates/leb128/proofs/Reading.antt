@@ -17,27 +17,27 @@ use lib.ListN.{length}
 use lib.Pow.{pow-add, pow_pos, pow_mono, shl_exact, split}
 use Rattle.format.specs.Write.{fits_or}
 use Rattle.leb128.specs.Leb.{within, leb, last_of, join}
-use Rattle.leb128.specs.LebLaws.{leb-some, limitOf, limit_is, signBits, bytes-at-most, bytes-above}
-use Rattle.leb128.specs.Parts.{by_sign, onesOf, joinBy, parts_at, short_at, Topped, WholeByte, CutByte}
+use Rattle.leb128.specs.LebLaws.{leb_some, limit_of, limit_is, sign_bits, bytes_at_most, bytes_above}
+use Rattle.leb128.specs.Parts.{by_sign, ones_of, join_by, parts_at, short_at, Topped, WholeByte, CutByte}
 use Rattle.leb128.specs.declared.Parts.{Parts}
 use Rattle.leb128.specs.declared.Parts.TheVariants.{Value, Nothing}
-use Rattle.leb128.proofs.Writing.{turn_of, turned, length-sign}
+use Rattle.leb128.proofs.Writing.{turn_of, turned, length_sign}
 
 -- ---- bits above a place
 
 none_above : (b k : ℕ) → b / 2 ^ k ≡ 0 → b < 2 ^ k
 none_above b k e = let h : b < 1 * 2 ^ k = (div-lt_iff_lt-mul (pow_pos k)).0 (omega arith) in omega arith
 
-some-above : (b k : ℕ) → (b / 2 ^ k ≡ 0 → ⊥) → 2 ^ k ≤ b
-some-above b k n = ⊎_elim (λ (h : 2 ^ k ≤ b). h) (λ (h : b < 2 ^ k). absurd (n (div-eq_of_lt h))) (fits_or (2 ^ k) b)
+some_above : (b k : ℕ) → (b / 2 ^ k ≡ 0 → ⊥) → 2 ^ k ≤ b
+some_above b k n = ⊎_elim (λ (h : 2 ^ k ≤ b). h) (λ (h : b < 2 ^ k). absurd (n (div-eq_of_lt h))) (fits_or (2 ^ k) b)
 
 -- as a test
-above-test : (b k : ℕ) → eqb (b / 2 ^ k) 0 ≡ ltb b (2 ^ k)
-above-test b k = go (eqb (b / 2 ^ k) 0) refl
+above_test : (b k : ℕ) → eqb (b / 2 ^ k) 0 ≡ ltb b (2 ^ k)
+above_test b k = go (eqb (b / 2 ^ k) 0) refl
   where
     go : (t : Bool) → eqb (b / 2 ^ k) 0 ≡ t → t ≡ ltb b (2 ^ k)
     go true e = sym (lt-ltb b (2 ^ k) (none_above b k (eqb-true (b / 2 ^ k) 0 e)))
-    go false e = sym (le-ltb b (2 ^ k) (some-above b k (eqb-false (b / 2 ^ k) 0 e)))
+    go false e = sym (le-ltb b (2 ^ k) (some_above b k (eqb-false (b / 2 ^ k) 0 e)))
 
 -- ---- groups put together
 
@@ -45,8 +45,8 @@ above-test b k = go (eqb (b / 2 ^ k) 0) refl
 pub behind : (k b v : ℕ) → 7 + k ≤ 64 → v < 2 ^ k → bit_or v (bit_and b 127 * 2 ^ k % 2 ^ 64) ≡ b % 128 * 2 ^ k + v
 behind k b v l f = rw (and_mask b 7, shl_exact {a = b % 128} 7 k 64 (omega arith) l) (or_shifted_r (b % 128) k v f)
 
-in-front : (j k d v : ℕ) → d < 2 ^ j → j + k ≤ 64 → v < 2 ^ k → bit_or (d * 2 ^ k % 2 ^ 64) v ≡ d * 2 ^ k + v
-in-front j k d v h l g = rw (shl_exact j k 64 h l) (or_shifted d k v g)
+in_front : (j k d v : ℕ) → d < 2 ^ j → j + k ≤ 64 → v < 2 ^ k → bit_or (d * 2 ^ k % 2 ^ 64) v ≡ d * 2 ^ k + v
+in_front j k d v h l g = rw (shl_exact j k 64 h l) (or_shifted d k v g)
 
 pub below : (k d v : ℕ) → d < 128 → v < 2 ^ k → d * 2 ^ k + v < 2 ^ (k + 7)
 below k d v h f =
@@ -54,15 +54,15 @@ below k d v h f =
     let c : d * 2 ^ k + v < 128 * 2 ^ k = digits_lt h f in
     omega arith
 
-pub join-start : (z : ℤ) → joinBy 0 z 0 ≡ z
-join-start (pos m) = ap pos (omega arith)
-join-start (negsuc m) = ap negsuc (omega arith)
+pub join_start : (z : ℤ) → join_by 0 z 0 ≡ z
+join_start (pos m) = ap pos (omega arith)
+join_start (negsuc m) = ap negsuc (omega arith)
 
 -- (127 - d) and d make 127, k bits further up
-seven-up : (k d : ℕ) → d < 128 → 127 * 2 ^ k ≡ (127 - d) * 2 ^ k + d * 2 ^ k
-seven-up k d h = let e : 127 - d + d ≡ 127 = omega arith in rw e at (add-mul (127 - d) d (2 ^ k))
+seven_up : (k d : ℕ) → d < 128 → 127 * 2 ^ k ≡ (127 - d) * 2 ^ k + d * 2 ^ k
+seven_up k d h = let e : 127 - d + d ≡ 127 = omega arith in rw e at (add-mul (127 - d) d (2 ^ k))
 
-pub join_more : (k : ℕ) (z : ℤ) (d v : ℕ) → d < 128 → v < 2 ^ k → joinBy k (join z d) v ≡ joinBy (k + 7) z (d * 2 ^ k + v)
+pub join_more : (k : ℕ) (z : ℤ) (d v : ℕ) → d < 128 → v < 2 ^ k → join_by k (join z d) v ≡ join_by (k + 7) z (d * 2 ^ k + v)
 join_more k z d v h f = go z
   where
     e : 2 ^ (k + 7) ≡ 2 ^ k * 128
@@ -71,9 +71,9 @@ join_more k z d v h f = go z
     up : (m x : ℕ) → (m * 128 + x) * 2 ^ k ≡ m * (2 ^ k * 128) + x * 2 ^ k
     up m x = add-mul (m * 128) x (2 ^ k) ∙ ap (λ (y : ℕ). y + x * 2 ^ k) (mul_assoc m 128 (2 ^ k) ∙ ap (λ (y : ℕ). m * y) (mul_comm 128 (2 ^ k)))
 
-    go : (z : ℤ) → joinBy k (join z d) v ≡ joinBy (k + 7) z (d * 2 ^ k + v)
+    go : (z : ℤ) → join_by k (join z d) v ≡ join_by (k + 7) z (d * 2 ^ k + v)
     go (pos m) = ap pos (rw e (omega (arith, up m d)))
-    go (negsuc m) = ap negsuc (rw e (omega (arith, up m (127 - d), seven-up k d h)))
+    go (negsuc m) = ap negsuc (rw e (omega (arith, up m (127 - d), seven_up k d h)))
 
 -- ---- a last byte, by its sign
 
@@ -81,28 +81,28 @@ turn_small : (neg : Bool) (k x : ℕ) → x < 2 ^ k → turn_of neg k x < 2 ^ k
 turn_small true k x h = omega arith
 turn_small false k x h = h
 
-sign-last : (s : Bool) (b : ℕ) → b < 128 → by_sign (s && is_le 64 b) (turn_of (s && is_le 64 b) 7 b) ≡ last_of s b
-sign-last false b h = refl
-sign-last true b h =
+sign_last : (s : Bool) (b : ℕ) → b < 128 → by_sign (s && is_le 64 b) (turn_of (s && is_le 64 b) 7 b) ≡ last_of s b
+sign_last false b h = refl
+sign_last true b h =
     ⊎_elim
     (λ (k : 64 ≤ b). rw (le-leb 64 b k, le-ltb b 64 k))
     (λ (k : b < 64). rw (lt-leb 64 b k, lt-ltb b 64 k))
     (fits_or 64 b)
 
-join-sign : (k : ℕ) (neg : Bool) (t v : ℕ) → joinBy k (by_sign neg t) v ≡ by_sign neg (t * 2 ^ k + turn_of neg k v)
-join-sign k true t v = refl
-join-sign k false t v = refl
+join_sign : (k : ℕ) (neg : Bool) (t v : ℕ) → join_by k (by_sign neg t) v ≡ by_sign neg (t * 2 ^ k + turn_of neg k v)
+join_sign k true t v = refl
+join_sign k false t v = refl
 
 -- only a number that has a sign is negative
-within-sign : (s x : Bool) (N t : ℕ) → within s N (by_sign (s && x) t) ≡ ltb t (2 ^ (N - signBits s))
-within-sign false x N t = let e : N - 0 ≡ N = omega arith in rw e
-within-sign true true N t = refl
-within-sign true false N t = refl
+within_sign : (s x : Bool) (N t : ℕ) → within s N (by_sign (s && x) t) ≡ ltb t (2 ^ (N - sign_bits s))
+within_sign false x N t = let e : N - 0 ≡ N = omega arith in rw e
+within_sign true true N t = refl
+within_sign true false N t = refl
 
 -- all seven bits are within the width
-pub within-whole : (s : Bool) (N b : ℕ) → b < 128 → 7 ≤ N → within s N (last_of s b) ≡ true
-within-whole false N b h l = lt-ltb b (2 ^ N) (omega (arith, pow_mono l))
-within-whole true N b h l =
+pub within_whole : (s : Bool) (N b : ℕ) → b < 128 → 7 ≤ N → within s N (last_of s b) ≡ true
+within_whole false N b h l = lt-ltb b (2 ^ N) (omega (arith, pow_mono l))
+within_whole true N b h l =
     let p : 6 ≤ N - 1 = omega arith in
     let w : 64 ≤ 2 ^ (N - 1) = pow_mono p in
     ⊎_elim
@@ -110,15 +110,15 @@ within-whole true N b h l =
     (λ (k : b < 64). rw (lt-ltb b 64 k) (lt-ltb b (2 ^ (N - 1)) (omega arith)))
     (fits_or 64 b)
 
-pub all-within : (s : Bool) (N b : ℕ) → b < 128 → 7 ≤ N → true ≡ within s N (last_of s b)
-all-within s N b h l = sym (within-whole s N b h l)
+pub all_within : (s : Bool) (N b : ℕ) → b < 128 → 7 ≤ N → true ≡ within s N (last_of s b)
+all_within s N b h l = sym (within_whole s N b h l)
 
 -- all that was read, turned over at once
-turn-whole : (neg : Bool) (k d v : ℕ) → d < 128 → v < 2 ^ k → turn_of neg (k + 7) (d * 2 ^ k + v) ≡ turn_of neg 7 d * 2 ^ k + turn_of neg k v
-turn-whole false k d v h f = refl
-turn-whole true k d v h f =
+turn_whole : (neg : Bool) (k d v : ℕ) → d < 128 → v < 2 ^ k → turn_of neg (k + 7) (d * 2 ^ k + v) ≡ turn_of neg 7 d * 2 ^ k + turn_of neg k v
+turn_whole false k d v h f = refl
+turn_whole true k d v h f =
     let e : 2 ^ (k + 7) ≡ 2 ^ k * 128 = pow-add 2 k 7 in
-    rw e (omega (arith, seven-up k d h))
+    rw e (omega (arith, seven_up k d h))
 
 -- the groups of v
 split_at : (k v b : ℕ) → v / 2 ^ k ≡ b → v ≡ b * 2 ^ k + v % 2 ^ k
@@ -129,115 +129,115 @@ low_part k v = mod-lt v (pow_pos k)
 
 -- ---- the shortest form: whether as few bytes as there are groups in k bits would do is told by the bits above those that they hold
 
-pub shorter-none : (s : Bool) (a : ℕ) {k : ℕ} → k ≡ 0 → false ≡ is_le (7 * length (leb s (pos a))) k
-shorter-none s a {k} e = sym (lt-leb (7 * length (leb s (pos a))) k (omega (arith, leb-some s (pos a))))
+pub shorter_none : (s : Bool) (a : ℕ) {k : ℕ} → k ≡ 0 → false ≡ is_le (7 * length (leb s (pos a))) k
+shorter_none s a {k} e = sym (lt-leb (7 * length (leb s (pos a))) k (omega (arith, leb_some s (pos a))))
 
 -- k bits of m + 1 groups
-shorter-groups : (s : Bool) (a m j : ℕ) → j ≡ 7 * m + (7 - signBits s) → eqb (a / 2 ^ j) 0 ≡ is_le (7 * length (leb s (pos a))) (7 * (m + 1))
-shorter-groups s a m j e =
-    let l : limitOf s m ≡ 2 ^ j = limit_is s m ∙ ap (λ (x : ℕ). 2 ^ x) (sym e) in
+shorter_groups : (s : Bool) (a m j : ℕ) → j ≡ 7 * m + (7 - sign_bits s) → eqb (a / 2 ^ j) 0 ≡ is_le (7 * length (leb s (pos a))) (7 * (m + 1))
+shorter_groups s a m j e =
+    let l : limit_of s m ≡ 2 ^ j = limit_is s m ∙ ap (λ (x : ℕ). 2 ^ x) (sym e) in
     ⊎_elim
     (λ (g : 2 ^ j ≤ a).
     let n : a / 2 ^ j ≡ 0 → ⊥ = λ x. let y = none_above a j x in omega arith in
-    ne_eqb (a / 2 ^ j) 0 n ∙ sym (lt-leb (7 * length (leb s (pos a))) (7 * (m + 1)) (omega (arith, bytes-above m s (pos a) (omega arith)))))
-    (λ (g : a < 2 ^ j). eq-eqb (a / 2 ^ j) 0 (div-eq_of_lt g) ∙ sym (le-leb (7 * length (leb s (pos a))) (7 * (m + 1)) (omega (arith, bytes-at-most m s (pos a) (omega arith)))))
+    ne_eqb (a / 2 ^ j) 0 n ∙ sym (lt-leb (7 * length (leb s (pos a))) (7 * (m + 1)) (omega (arith, bytes_above m s (pos a) (omega arith)))))
+    (λ (g : a < 2 ^ j). eq-eqb (a / 2 ^ j) 0 (div-eq_of_lt g) ∙ sym (le-leb (7 * length (leb s (pos a))) (7 * (m + 1)) (omega (arith, bytes_at_most m s (pos a) (omega arith)))))
     (fits_or (2 ^ j) a)
 
 module _ (s : Bool) (a k : ℕ) (some : k ≡ 0 → ⊥) (groups : k % 7 ≡ 0) where
-  shorter-more : (j : ℕ) → j ≡ k - signBits s → eqb (a / 2 ^ j) 0 ≡ is_le (7 * length (leb s (pos a))) k
-  shorter-more j e =
+  shorter_more : (j : ℕ) → j ≡ k - sign_bits s → eqb (a / 2 ^ j) 0 ≡ is_le (7 * length (leb s (pos a))) k
+  shorter_more j e =
       let m = k / 7 - 1 in
       let x : 7 * (m + 1) ≡ k = omega (arith, some) in
-      rw x at (shorter-groups s a m j (e ∙ bits s))
+      rw x at (shorter_groups s a m j (e ∙ bits s))
     where
-      bits : (s : Bool) → k - signBits s ≡ 7 * (k / 7 - 1) + (7 - signBits s)
+      bits : (s : Bool) → k - sign_bits s ≡ 7 * (k / 7 - 1) + (7 - sign_bits s)
       bits true = omega (arith, some)
       bits false = omega (arith, some)
 
-  pub shorter-signed : s ≡ true → eqb (a / 2 ^ (k - 1)) 0 ≡ is_le (7 * length (leb s (pos a))) k
-  shorter-signed e = shorter-more (k - 1) (rw e)
+  pub shorter_signed : s ≡ true → eqb (a / 2 ^ (k - 1)) 0 ≡ is_le (7 * length (leb s (pos a))) k
+  shorter_signed e = shorter_more (k - 1) (rw e)
 
-  pub shorter-plain : s ≡ false → eqb (a / 2 ^ k) 0 ≡ is_le (7 * length (leb s (pos a))) k
-  shorter-plain e = shorter-more k (rw e (omega arith))
+  pub shorter_plain : s ≡ false → eqb (a / 2 ^ k) 0 ≡ is_le (7 * length (leb s (pos a))) k
+  shorter_plain e = shorter_more k (rw e (omega arith))
 
 -- with anything in its last group a number needs it
-needs-top : (s : Bool) (a k : ℕ) → k % 7 ≡ 0 → (a / 2 ^ k ≡ 0 → ⊥) → is_le (7 * length (leb s (pos a))) k ≡ false
-needs-top s a k h n = ⊎_elim none some (fits_or k 0)
+needs_top : (s : Bool) (a k : ℕ) → k % 7 ≡ 0 → (a / 2 ^ k ≡ 0 → ⊥) → is_le (7 * length (leb s (pos a))) k ≡ false
+needs_top s a k h n = ⊎_elim none some (fits_or k 0)
   where
     none : k ≤ 0 → is_le (7 * length (leb s (pos a))) k ≡ false
-    none z = lt-leb (7 * length (leb s (pos a))) k (omega (arith, leb-some s (pos a)))
+    none z = lt-leb (7 * length (leb s (pos a))) k (omega (arith, leb_some s (pos a)))
 
     some : 0 < k → is_le (7 * length (leb s (pos a))) k ≡ false
     some z =
         let m = k / 7 - 1 in
-        let b : limitOf s m ≤ 2 ^ k = rw (limit_is s m) (pow_mono (bits s)) in
-        let g : 2 ^ k ≤ a = some-above a k n in
-        lt-leb (7 * length (leb s (pos a))) k (omega (arith, bytes-above m s (pos a) (omega arith)))
+        let b : limit_of s m ≤ 2 ^ k = rw (limit_is s m) (pow_mono (bits s)) in
+        let g : 2 ^ k ≤ a = some_above a k n in
+        lt-leb (7 * length (leb s (pos a))) k (omega (arith, bytes_above m s (pos a) (omega arith)))
       where
-        bits : (s : Bool) → 7 * (k / 7 - 1) + (7 - signBits s) ≤ k
+        bits : (s : Bool) → 7 * (k / 7 - 1) + (7 - sign_bits s) ≤ k
         bits true = omega arith
         bits false = omega arith
 
 -- ---- a last byte as the code takes it: neg is its sign, and f the bits of it to turn over
 
-module _ (s : Bool) (b : ℕ) {neg : Bool} {f : ℕ} (is : neg ≡ s && is_le 64 b) (seven : f ≡ onesOf neg 7) where
-  top-is : b < 128 → bit_xor b f ≡ turn_of neg 7 b
-  top-is small = rw seven (turned neg 7 b small)
+module _ (s : Bool) (b : ℕ) {neg : Bool} {f : ℕ} (is : neg ≡ s && is_le 64 b) (seven : f ≡ ones_of neg 7) where
+  top_is : b < 128 → bit_xor b f ≡ turn_of neg 7 b
+  top_is small = rw seven (turned neg 7 b small)
 
   last-is : b < 128 → by_sign neg (bit_xor b f) ≡ last_of s b
-  last-is small = rw (top-is small, is) (sign-last s b small)
+  last-is small = rw (top_is small, is) (sign_last s b small)
 
-  within-top : b < 128 → (N : ℕ) → within s N (last_of s b) ≡ ltb (bit_xor b f) (2 ^ (N - signBits s))
-  within-top small N = sym (ap (within s N) (last-is small)) ∙ rw is (within-sign s (is_le 64 b) N (bit_xor b f))
+  within_top : b < 128 → (N : ℕ) → within s N (last_of s b) ≡ ltb (bit_xor b f) (2 ^ (N - sign_bits s))
+  within_top small N = sym (ap (within s N) (last-is small)) ∙ rw is (within_sign s (is_le 64 b) N (bit_xor b f))
 
   -- v in front of which the byte stands, turned over
-  join-top : b < 128 → (k v : ℕ) → by_sign neg (bit_xor b f * 2 ^ k + turn_of neg k v) ≡ joinBy k (last_of s b) v
-  join-top small k v = sym (join-sign k neg (bit_xor b f) v) ∙ ap (λ (z : ℤ). joinBy k z v) (last-is small)
+  join_top : b < 128 → (k v : ℕ) → by_sign neg (bit_xor b f * 2 ^ k + turn_of neg k v) ≡ join_by k (last_of s b) v
+  join_top small k v = sym (join_sign k neg (bit_xor b f) v) ∙ ap (λ (z : ℤ). join_by k z v) (last-is small)
 
   -- tested by the bits left for it
-  pub within-is : (N : ℕ) {j : ℕ} → b < 128 → j ≡ N - signBits s → eqb (bit_xor b f / 2 ^ j) 0 ≡ within s N (last_of s b)
-  within-is N {j} small e = above-test (bit_xor b f) j ∙ sym (within-top small N ∙ rw e)
+  pub within_is : (N : ℕ) {j : ℕ} → b < 128 → j ≡ N - sign_bits s → eqb (bit_xor b f / 2 ^ j) 0 ≡ within s N (last_of s b)
+  within_is N {j} small e = above_test (bit_xor b f) j ∙ sym (within_top small N ∙ rw e)
 
   -- all seven bits within the width, and read already: o has the bits to turn over
-  module _ {k v o : ℕ} (w : WholeByte k b v) (all : o ≡ onesOf neg (k + 7)) where
+  module _ {k v o : ℕ} (w : WholeByte k b v) (all : o ≡ ones_of neg (k + 7)) where
     whole_is : bit_xor v o ≡ bit_xor b f * 2 ^ k + turn_of neg k (v % 2 ^ k)
     whole_is =
         let small = w.small in
         let e : v ≡ b * 2 ^ k + v % 2 ^ k = split_at k v b w.is in
         let l : v < 2 ^ (k + 7) = rw e (below k b (v % 2 ^ k) small (low_part k v)) in
-        rw (all, turned neg (k + 7) v l, top-is small) (ap (turn_of neg (k + 7)) e ∙ turn-whole neg k b (v % 2 ^ k) small (low_part k v))
+        rw (all, turned neg (k + 7) v l, top_is small) (ap (turn_of neg (k + 7)) e ∙ turn_whole neg k b (v % 2 ^ k) small (low_part k v))
 
-    pub whole-topped : Topped k (bit_xor b f) (bit_xor v o)
-    whole-topped = record { fits = omega (arith, w.fits); groups = w.groups; is = rw whole_is (digits_div (bit_xor b f) (turn_small neg k (v % 2 ^ k) (low_part k v))) }
+    pub whole_topped : Topped k (bit_xor b f) (bit_xor v o)
+    whole_topped = record { fits = omega (arith, w.fits); groups = w.groups; is = rw whole_is (digits_div (bit_xor b f) (turn_small neg k (v % 2 ^ k) (low_part k v))) }
 
-    pub whole-value : (p : ℕ) {r : Parts} → r ≡ short_at s k (by_sign neg (bit_xor v o)) p → r ≡ short_at s k (joinBy k (last_of s b) (v % 2 ^ k)) p
-    whole-value p e = e ∙ ap (λ (z : ℤ). short_at s k z p) (rw whole_is (join-top w.small k (v % 2 ^ k)))
+    pub whole_value : (p : ℕ) {r : Parts} → r ≡ short_at s k (by_sign neg (bit_xor v o)) p → r ≡ short_at s k (join_by k (last_of s b) (v % 2 ^ k)) p
+    whole_value p e = e ∙ ap (λ (z : ℤ). short_at s k z p) (rw whole_is (join_top w.small k (v % 2 ^ k)))
 
   -- N bits of it within the width, and v read below it
-  module _ {N k v j : ℕ} (c : CutByte N k b v) (left : j ≡ N - signBits s) where
-    pub over-width : (p : ℕ) → (bit_xor b f / 2 ^ j ≡ 0 → ⊥) → Nothing ≡ cond (within s N (last_of s b)) (short_at s k (joinBy k (last_of s b) v) p) Nothing
-    over-width p n = rw (within-top c.small N, ← left, le-ltb _ _ (some-above (bit_xor b f) j n))
+  module _ {N k v j : ℕ} (c : CutByte N k b v) (left : j ≡ N - sign_bits s) where
+    pub over_width : (p : ℕ) → (bit_xor b f / 2 ^ j ≡ 0 → ⊥) → Nothing ≡ cond (within s N (last_of s b)) (short_at s k (join_by k (last_of s b) v) p) Nothing
+    over_width p n = rw (within_top c.small N, ← left, le-ltb _ _ (some_above (bit_xor b f) j n))
 
     module _ (none : bit_xor b f / 2 ^ j ≡ 0) where
-      pub top-fits : Fits w64 (bit_xor b f)
-      top-fits =
+      pub top_fits : Fits w64 (bit_xor b f)
+      top_fits =
           let few : 2 ^ j ≤ 2 ^ 7 = pow_mono {i = j} {j = 7} (omega (arith, c.cut)) in
           record { fits = omega (arith, none_above (bit_xor b f) j none) }
 
-      module _ {o : ℕ} (all : o ≡ onesOf neg k) where
-        part-is : bit_or (bit_xor b f * 2 ^ k % 2 ^ 64) (bit_xor v o) ≡ bit_xor b f * 2 ^ k + turn_of neg k v
-        part-is =
+      module _ {o : ℕ} (all : o ≡ ones_of neg k) where
+        part_is : bit_or (bit_xor b f * 2 ^ k % 2 ^ 64) (bit_xor v o) ≡ bit_xor b f * 2 ^ k + turn_of neg k v
+        part_is =
             rw (all, turned neg k v c.below)
-            (in-front j k (bit_xor b f) (turn_of neg k v) (none_above (bit_xor b f) j none) (omega (arith, c.fits)) (turn_small neg k v c.below))
+            (in_front j k (bit_xor b f) (turn_of neg k v) (none_above (bit_xor b f) j none) (omega (arith, c.fits)) (turn_small neg k v c.below))
 
-        pub part-topped : Topped k (bit_xor b f) (bit_or (bit_xor b f * 2 ^ k % 2 ^ 64) (bit_xor v o))
-        part-topped = record { fits = omega (arith, c.some, c.fits); groups = c.groups; is = rw part-is (digits_div (bit_xor b f) (turn_small neg k v c.below)) }
+        pub part_topped : Topped k (bit_xor b f) (bit_or (bit_xor b f * 2 ^ k % 2 ^ 64) (bit_xor v o))
+        part_topped = record { fits = omega (arith, c.some, c.fits); groups = c.groups; is = rw part_is (digits_div (bit_xor b f) (turn_small neg k v c.below)) }
 
-        pub part-value : (p : ℕ) {r : Parts} → r ≡ short_at s k (by_sign neg (bit_or (bit_xor b f * 2 ^ k % 2 ^ 64) (bit_xor v o))) p
-            → r ≡ cond (within s N (last_of s b)) (short_at s k (joinBy k (last_of s b) v) p) Nothing
-        part-value p e =
-            rw (within-top c.small N, ← left, lt-ltb _ _ (none_above (bit_xor b f) j none))
-            (e ∙ ap (λ (z : ℤ). short_at s k z p) (rw part-is (join-top c.small k v)))
+        pub part_value : (p : ℕ) {r : Parts} → r ≡ short_at s k (by_sign neg (bit_or (bit_xor b f * 2 ^ k % 2 ^ 64) (bit_xor v o))) p
+            → r ≡ cond (within s N (last_of s b)) (short_at s k (join_by k (last_of s b) v) p) Nothing
+        part_value p e =
+            rw (within_top c.small N, ← left, lt-ltb _ _ (none_above (bit_xor b f) j none))
+            (e ∙ ap (λ (z : ℤ). short_at s k z p) (rw part_is (join_top c.small k v)))
 
 -- ---- the bits to turn over
 
@@ -245,28 +245,28 @@ module _ (k : ℕ) (h : k < 64) where
   one_up : 1 * 2 ^ k % 2 ^ 64 ≡ 2 ^ k
   one_up = shl_exact {a = 1} 1 k 64 (omega arith) (omega arith) ∙ omega arith
 
-  pub one-there : 1 ≤ 1 * 2 ^ k % 2 ^ 64
-  one-there = omega (arith, one_up, pow_pos k)
+  pub one_there : 1 ≤ 1 * 2 ^ k % 2 ^ 64
+  one_there = omega (arith, one_up, pow_pos k)
 
-  pub ones-turned : {neg : Bool} → neg ≡ true → 1 * 2 ^ k % 2 ^ 64 - 1 ≡ onesOf neg k
-  ones-turned e = rw (e, one_up)
+  pub ones_turned : {neg : Bool} → neg ≡ true → 1 * 2 ^ k % 2 ^ 64 - 1 ≡ ones_of neg k
+  ones_turned e = rw (e, one_up)
 
 -- ---- the answer
 
 module _ (s neg : Bool) (a k p : ℕ) where
   -- by the test
-  short-is : {t : Bool} → is_le (7 * length (leb s (pos a))) k ≡ t → short_at s k (by_sign neg a) p ≡ cond t Nothing (Value neg a p)
-  short-is {t} e = rw (length-sign s neg a, e) (ap (cond t Nothing) (parts neg))
+  short_is : {t : Bool} → is_le (7 * length (leb s (pos a))) k ≡ t → short_at s k (by_sign neg a) p ≡ cond t Nothing (Value neg a p)
+  short_is {t} e = rw (length_sign s neg a, e) (ap (cond t Nothing) (parts neg))
     where
       parts : (neg : Bool) → parts_at (by_sign neg a) p ≡ Value neg a p
       parts true = refl
       parts false = refl
 
-  pub short-less : {t : Bool} → t ≡ is_le (7 * length (leb s (pos a))) k → t ≡ true → Nothing ≡ short_at s k (by_sign neg a) p
-  short-less e y = sym (short-is (sym e ∙ y))
+  pub short_less : {t : Bool} → t ≡ is_le (7 * length (leb s (pos a))) k → t ≡ true → Nothing ≡ short_at s k (by_sign neg a) p
+  short_less e y = sym (short_is (sym e ∙ y))
 
-  pub short-enough : {t : Bool} → t ≡ is_le (7 * length (leb s (pos a))) k → t ≡ false → Value neg a p ≡ short_at s k (by_sign neg a) p
-  short-enough e n = sym (short-is (sym e ∙ n))
+  pub short_enough : {t : Bool} → t ≡ is_le (7 * length (leb s (pos a))) k → t ≡ false → Value neg a p ≡ short_at s k (by_sign neg a) p
+  short_enough e n = sym (short_is (sym e ∙ n))
 
-  pub short-topped : {top : ℕ} → Topped k top a → (top ≡ 0 → ⊥) → Value neg a p ≡ short_at s k (by_sign neg a) p
-  short-topped t n = sym (short-is (needs-top s a k t.groups (λ e. n (sym t.is ∙ e))))
+  pub short_topped : {top : ℕ} → Topped k top a → (top ≡ 0 → ⊥) → Value neg a p ≡ short_at s k (by_sign neg a) p
+  short_topped t n = sym (short_is (needs_top s a k t.groups (λ e. n (sym t.is ∙ e))))

@@ -5,7 +5,7 @@ use Rattle.std.specs.Prelude.{ℕ, zero, suc, ◌+◌, ◌-◌, ◌*◌, ◌%◌
 use Rattle.std.specs.Int.Signed.{mag, shr_z}
 use Rattle.format.specs.Parsed.{Parsed, fail, got, bind, map}
 
--- the two kinds of numbers: uN and sN of the standard
+-- the two kinds of numbers: u_n and s_n of the standard
 abbrev pub unsigned : Bool
 unsigned = false
 
@@ -31,13 +31,13 @@ low (pos a) = a % 128
 low (negsuc a) = 127 - a % 128
 
 -- the shortest form of z, in at most k + 1 bytes
-unfoldable pub lebBy : ℕ → Bool → ℤ → List ℕ
-lebBy zero s z = low z ∷ []
-lebBy (suc k) s z = elim (ltb (mag z) (limit s)) [ true ↦ low z ∷ [] | false ↦ (low z + 128) ∷ lebBy k s (shr_z z 128) ]
+unfoldable pub leb_by : ℕ → Bool → ℤ → List ℕ
+leb_by zero s z = low z ∷ []
+leb_by (suc k) s z = elim (ltb (mag z) (limit s)) [ true ↦ low z ∷ [] | false ↦ (low z + 128) ∷ leb_by k s (shr_z z 128) ]
 
 -- z that a last byte holds: its low seven bits; else those with the high bit set, and then the rest. mag z bounds the number of bytes
 unfoldable pub leb : Bool → ℤ → List ℕ
-leb s z = lebBy (mag z) s z
+leb s z = leb_by (mag z) s z
 
 abbrev pub uleb : ℕ → List ℕ
 uleb n = leb unsigned (pos n)
@@ -57,7 +57,7 @@ abbrev pub join : ℤ → ℕ → ℤ
 join (pos m) d = pos (m * 128 + d)
 join (negsuc m) d = negsuc (m * 128 + (127 - d))
 
--- the standard's uN and sN at the front of some bytes (`Integers`): padding is taken
+-- the standard's u_n and s_n at the front of some bytes (`Integers`): padding is taken
 unfoldable pub wide : Bool → ℕ → List ℕ → Parsed ℤ
 wide s N [] = fail
 wide s N (b ∷ t) =

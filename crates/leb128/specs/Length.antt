@@ -6,49 +6,49 @@ use Rattle.std.specs.Int.Count.{count_leading_zeros, leading_of_zero}
 use Rattle.std.proofs.lemmas.Nat.{leading_top}
 use Rattle.std.specs.Int.Signed.{mag}
 use Rattle.leb128.specs.Leb.{leb}
-use Rattle.leb128.specs.LebLaws.{limit_is, limit-some, signBits, leb-last, leb-some, bytes-at-most, bytes-above}
+use Rattle.leb128.specs.LebLaws.{limit_is, limit_some, sign_bits, leb_last, leb_some, bytes_at_most, bytes_above}
 
 -- the bit at k is the highest that is set in a: 2^k ≤ a < 2^(k+1)
 pub record Highest (a k : ℕ) : Type 0 where
   pub set : 2 ^ k ≤ a
   pub last : a < 2 ^ (k + 1)
 
-one-sign : (s : Bool) → signBits s ≤ 1
-one-sign true = omega arith
-one-sign false = omega arith
+one_sign : (s : Bool) → sign_bits s ≤ 1
+one_sign true = omega arith
+one_sign false = omega arith
 
 module _ (s : Bool) (z : ℤ) where
   -- no bit is set
   pub length-zero : mag z ≡ 0 → length (leb s z) ≡ 1
-  length-zero e = ap length (leb-last s z (omega (arith, limit-some s)))
+  length-zero e = ap length (leb_last s z (omega (arith, limit_some s)))
 
   module _ (k : ℕ) (h : Highest (mag z) k) where
     -- m + 1 bytes hold the bits up to 7 m + 6, the sign's among them
-    enough : (m : ℕ) → k + signBits s ≤ 7 * m + 6 → length (leb s z) ≤ m + 1
+    enough : (m : ℕ) → k + sign_bits s ≤ 7 * m + 6 → length (leb s z) ≤ m + 1
     enough m l =
-        let p : k + 1 ≤ 7 * m + (7 - signBits s) = omega (arith, one-sign s) in
-        bytes-at-most m s z (omega (arith, limit_is s m, pow_mono p, h.last))
+        let p : k + 1 ≤ 7 * m + (7 - sign_bits s) = omega (arith, one_sign s) in
+        bytes_at_most m s z (omega (arith, limit_is s m, pow_mono p, h.last))
 
-    needed : (m : ℕ) → 7 * m ≤ k + signBits s → m < length (leb s z)
-    needed zero l = leb-some s z
+    needed : (m : ℕ) → 7 * m ≤ k + sign_bits s → m < length (leb s z)
+    needed zero l = leb_some s z
     needed (suc m) l =
-        let p : 7 * m + (7 - signBits s) ≤ k = omega (arith, one-sign s) in
-        omega (arith, bytes-above m s z (omega (arith, limit_is s m, pow_mono p, h.set)))
+        let p : 7 * m + (7 - sign_bits s) ≤ k = omega (arith, one_sign s) in
+        omega (arith, bytes_above m s z (omega (arith, limit_is s m, pow_mono p, h.set)))
 
-    pub length-by-bit : length (leb s z) ≡ (k + signBits s) / 7 + 1
-    length-by-bit = omega (arith, enough ((k + signBits s) / 7) (omega arith), needed ((k + signBits s) / 7) (omega arith))
+    pub length_by_bit : length (leb s z) ≡ (k + sign_bits s) / 7 + 1
+    length_by_bit = omega (arith, enough ((k + sign_bits s) / 7) (omega arith), needed ((k + sign_bits s) / 7) (omega arith))
 
   -- counted from the top of N bits; where no bit is set, all N are zeros, and the length is that of the lowest bit
-  pub length-by-zeros : (N : ℕ) → mag z < 2 ^ N → length (leb s z) ≡ (N - 1 - count_leading_zeros N (mag z) + signBits s) / 7 + 1
-  length-by-zeros N h = ⊎_elim none some (eq-zero-or-pos (mag z))
+  pub length_by_zeros : (N : ℕ) → mag z < 2 ^ N → length (leb s z) ≡ (N - 1 - count_leading_zeros N (mag z) + sign_bits s) / 7 + 1
+  length_by_zeros N h = ⊎_elim none some (eq-zero-or-pos (mag z))
     where
-      none : mag z ≡ 0 → length (leb s z) ≡ (N - 1 - count_leading_zeros N (mag z) + signBits s) / 7 + 1
+      none : mag z ≡ 0 → length (leb s z) ≡ (N - 1 - count_leading_zeros N (mag z) + sign_bits s) / 7 + 1
       none e =
           let q : N - 1 - count_leading_zeros N (mag z) ≡ 0 = rw (e, leading_of_zero N) (omega arith) in
-          length-zero e ∙ rw q (omega (arith, one-sign s))
+          length-zero e ∙ rw q (omega (arith, one_sign s))
 
-      some : 0 < mag z → length (leb s z) ≡ (N - 1 - count_leading_zeros N (mag z) + signBits s) / 7 + 1
+      some : 0 < mag z → length (leb s z) ≡ (N - 1 - count_leading_zeros N (mag z) + sign_bits s) / 7 + 1
       some p =
           let (k, e, l, u) = leading_top N (mag z) p h in
           let q : k ≡ N - 1 - count_leading_zeros N (mag z) = omega arith in
-          length-by-bit k (record { set = l; last = rw add-one u }) ∙ ap (λ (n : ℕ). (n + signBits s) / 7 + 1) q
+          length_by_bit k (record { set = l; last = rw add-one u }) ∙ ap (λ (n : ℕ). (n + sign_bits s) / 7 + 1) q

@@ -11,19 +11,19 @@ abbrev pub by_sign : Bool → ℕ → ℤ
 by_sign false a = pos a
 by_sign true a = negsuc a
 
-pub mag-sign : (neg : Bool) (a : ℕ) → mag (by_sign neg a) ≡ a
-mag-sign true a = refl
-mag-sign false a = refl
+pub mag_sign : (neg : Bool) (a : ℕ) → mag (by_sign neg a) ≡ a
+mag_sign true a = refl
+mag_sign false a = refl
 
 -- the k bits that a negative number turns over
-abbrev pub onesOf : Bool → ℕ → ℕ
-onesOf false k = 0
-onesOf true k = 2 ^ k - 1
+abbrev pub ones_of : Bool → ℕ → ℕ
+ones_of false k = 0
+ones_of true k = 2 ^ k - 1
 
 -- 2^n · z + d, for d below 2^n
-abbrev pub joinBy : ℕ → ℤ → ℕ → ℤ
-joinBy n (pos m) d = pos (m * 2 ^ n + d)
-joinBy n (negsuc m) d = negsuc (m * 2 ^ n + (2 ^ n - 1 - d))
+abbrev pub join_by : ℕ → ℤ → ℕ → ℤ
+join_by n (pos m) d = pos (m * 2 ^ n + d)
+join_by n (negsuc m) d = negsuc (m * 2 ^ n + (2 ^ n - 1 - d))
 
 abbrev pub parts_at : ℤ → ℕ → Parts
 parts_at (pos a) p = parts.Value false a p

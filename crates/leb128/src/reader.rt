@@ -1,8 +1,8 @@
 // Reading a number by its sign and its magnitude: one pass, the shortest form only. Only a last byte is looked at for its sign, the width and padding.
 ghost use Rattle.std.specs.Prelude.{◌≡◌, cond, ◌&&◌, ◌-◌, ◌*◌, ◌%◌, ◌≤◌, ◌<◌, ◌^◌, leb as is_le, pos, length, drop};
 ghost use Rattle.leb128.specs.Leb.{within, leb, last_of, short};
-ghost use Rattle.leb128.specs.LebLaws.{signBits};
-ghost use Rattle.leb128.specs.Parts.{by_sign, onesOf, joinBy, short_at, parts_of, Topped, WholeByte, CutByte};
+ghost use Rattle.leb128.specs.LebLaws.{sign_bits};
+ghost use Rattle.leb128.specs.Parts.{by_sign, ones_of, join_by, short_at, parts_of, Topped, WholeByte, CutByte};
 ghost use Rattle.leb128.specs.declared.Parts.TheVariants.{Nothing};
 
 use crate::Parts;
@@ -21,7 +21,7 @@ fn sign(signed: bool, b: u8) -> bool
 // The k bits that a negative number turns over.
 fn ones(neg: bool, k: u32) -> u64
     requires { k < 64 }
-    ensures { result ≡ onesOf neg k }
+    ensures { result ≡ ones_of neg k }
 {
     if neg {
         return (1 << k) - 1;
@@ -59,7 +59,7 @@ fn shortest(signed: bool, neg: bool, top: u8, a: u64, shift: u32, end: usize) ->
 // A last byte whose seven bits are all within the width: v is all that was read.
 fn whole(signed: bool, b: u8, v: u64, shift: u32, end: usize) -> Parts
     requires { WholeByte shift b v }
-    ensures { result ≡ short_at signed shift (joinBy shift (last_of signed b) (v % 2 ^ shift)) end }
+    ensures { result ≡ short_at signed shift (join_by shift (last_of signed b) (v % 2 ^ shift)) end }
 {
     let neg = sign(signed, b);
     let top = b ^ flip(neg);
@@ -69,7 +69,7 @@ fn whole(signed: bool, b: u8, v: u64, shift: u32, end: usize) -> Parts
 // The bits of a number without its sign.
 fn value_bits(signed: bool, bits: u32) -> u32
     requires { 1 ≤ bits }
-    ensures { result ≡ bits - signBits signed }
+    ensures { result ≡ bits - sign_bits signed }
 {
     if signed { bits - 1 } else { bits }
 }
@@ -89,7 +89,7 @@ pub fn is_within(signed: bool, bits: u32, b: u8) -> bool
 // The last byte that the width allows, with so many bits left for it.
 fn last(signed: bool, bits: u32, b: u8, low: u64, shift: u32, end: usize) -> Parts
     requires { CutByte bits shift b low }
-    ensures { result ≡ cond (within signed bits (last_of signed b)) (short_at signed shift (joinBy shift (last_of signed b) low) end) Nothing }
+    ensures { result ≡ cond (within signed bits (last_of signed b)) (short_at signed shift (join_by shift (last_of signed b) low) end) Nothing }
 {
     let neg = sign(signed, b);
     let top = b ^ flip(neg);

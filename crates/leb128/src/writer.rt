@@ -2,7 +2,7 @@
 ghost use Rattle.std.specs.Prelude.{◌≡◌, leb as is_le, pos, length};
 ghost use Rattle.format.specs.Write.{Writes};
 ghost use Rattle.leb128.specs.Leb.{limit, leb};
-ghost use Rattle.leb128.specs.Parts.{by_sign, onesOf};
+ghost use Rattle.leb128.specs.Parts.{by_sign, ones_of};
 
 use format::Written;
 
@@ -15,7 +15,7 @@ fn last_limit(signed: bool) -> u64
 
 // The seven bits that a negative number turns over in each group.
 pub fn flip(neg: bool) -> u8
-    ensures { result ≡ onesOf neg 7 }
+    ensures { result ≡ ones_of neg 7 }
 {
     if neg { 0x7F } else { 0 }
 }

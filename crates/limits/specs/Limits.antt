@@ -5,7 +5,7 @@ use Rattle.std.proofs.Common.{ap}
 use Rattle.format.specs.Format.{Format}
 use Rattle.format.specs.Basic.{empty}
 use Rattle.format.specs.Combine.{pair, dep, iso}
-use Rattle.format.specs.Agree.{Agree, agree_same, pair-agree}
+use Rattle.format.specs.Agree.{Agree, agree_same, pair_agree}
 use Rattle.leb128.specs.Formats.{u64}
 use Rattle.words.specs.Words.{unused}
 use Rattle.words.specs.Number64.{number64}
@@ -24,39 +24,39 @@ abbrev pub Behind : Bool → Type 0
 Behind true = ℕ
 Behind false = Unit {0}
 
-abbrev pub isPresent : Maximum → Bool
-isPresent None = false
-isPresent (Some n) = true
+abbrev pub is_present : Maximum → Bool
+is_present None = false
+is_present (Some n) = true
 
-abbrev pub maximumTo : (m : Maximum) → Behind (isPresent m)
-maximumTo None = tt
-maximumTo (Some n) = n
+abbrev pub maximum_to : (m : Maximum) → Behind (is_present m)
+maximum_to None = tt
+maximum_to (Some n) = n
 
-abbrev pub maximumOf : (b : Bool) → Behind b → Maximum
-maximumOf true n = Some n
-maximumOf false u = None
+abbrev pub maximum_of : (b : Bool) → Behind b → Maximum
+maximum_of true n = Some n
+maximum_of false u = None
 
-maximum-of-to : (m : Maximum) → maximumOf (isPresent m) (maximumTo m) ≡ m
-maximum-of-to None = refl
-maximum-of-to (Some n) = refl
+maximum_of_to : (m : Maximum) → maximum_of (is_present m) (maximum_to m) ≡ m
+maximum_of_to None = refl
+maximum_of_to (Some n) = refl
 
 abbrev pub Parts : Type 0
 Parts = (f : Flags) × (ℕ × Behind f.present)
 
-abbrev pub limitsTo : Limits → Parts
-limitsTo l = (record { present = isPresent l.maximum; shared = l.shared; wide = l.wide }, (l.minimum, maximumTo l.maximum))
+abbrev pub limits_to : Limits → Parts
+limits_to l = (record { present = is_present l.maximum; shared = l.shared; wide = l.wide }, (l.minimum, maximum_to l.maximum))
 
-abbrev pub limitsOf : Parts → Limits
-limitsOf p = record { wide = p.0.wide; shared = p.0.shared; minimum = p.1.0; maximum = maximumOf p.0.present p.1.1 }
+abbrev pub limits_of : Parts → Limits
+limits_of p = record { wide = p.0.wide; shared = p.0.shared; minimum = p.1.0; maximum = maximum_of p.0.present p.1.1 }
 
-pub limits-of-to : (l : Limits) → limitsOf (limitsTo l) ≡ l
-limits-of-to l = ap (λ (m : Maximum). record { wide = l.wide; shared = l.shared; minimum = l.minimum; maximum = m }) (maximum-of-to l.maximum)
+pub limits_of_to : (l : Limits) → limits_of (limits_to l) ≡ l
+limits_of_to l = ap (λ (m : Maximum). record { wide = l.wide; shared = l.shared; minimum = l.minimum; maximum = m }) (maximum_of_to l.maximum)
 
-pub limits-to-of : (p : Parts) → limitsTo (limitsOf p) ≡ p
-limits-to-of p = go p.0.present p.1.1
+pub limits_to_of : (p : Parts) → limits_to (limits_of p) ≡ p
+limits_to_of p = go p.0.present p.1.1
   where
     go : (b : Bool) (x : Behind b)
-        → ◌≡◌ {A = Parts} (limitsTo (limitsOf (record { present = b; shared = p.0.shared; wide = p.0.wide }, (p.1.0, x))))
+        → ◌≡◌ {A = Parts} (limits_to (limits_of (record { present = b; shared = p.0.shared; wide = p.0.wide }, (p.1.0, x))))
         (record { present = b; shared = p.0.shared; wide = p.0.wide }, (p.1.0, x))
     go true n = refl
     go false u = refl
@@ -71,29 +71,29 @@ module _ (N : Format ℕ) (Z : Format (Unit {0})) where
   sizes b = pair N (behind b)
 
   abbrev pub limits : Format Limits
-  limits = iso (dep flags (λ f. sizes f.present)) limitsTo limitsOf limits-of-to limits-to-of
+  limits = iso (dep flags (λ f. sizes f.present)) limits_to limits_of limits_of_to limits_to_of
 
 -- words: an absent maximum is 0 0
-abbrev pub sizesWords : (b : Bool) → Format (ℕ × Behind b)
-sizesWords = sizes number64 unused
+abbrev pub sizes_words : (b : Bool) → Format (ℕ × Behind b)
+sizes_words = sizes number64 unused
 
-abbrev pub limitsWords : Format Limits
-limitsWords = limits number64 unused
+abbrev pub limits_words : Format Limits
+limits_words = limits number64 unused
 
 -- bytes: an absent maximum takes none
-abbrev pub sizesBytes : (b : Bool) → Format (ℕ × Behind b)
-sizesBytes = sizes u64 empty
+abbrev pub sizes_bytes : (b : Bool) → Format (ℕ × Behind b)
+sizes_bytes = sizes u64 empty
 
-abbrev pub limitsBytes : Format Limits
-limitsBytes = limits u64 empty
+abbrev pub limits_bytes : Format Limits
+limits_bytes = limits u64 empty
 
 -- the limits that have words are those that have bytes
-behind-agree : (b : Bool) → Agree (behind number64 unused b) (behind u64 empty b)
-behind-agree true = agree_same u64
-behind-agree false = agree_same empty
+behind_agree : (b : Bool) → Agree (behind number64 unused b) (behind u64 empty b)
+behind_agree true = agree_same u64
+behind_agree false = agree_same empty
 
-sizes-agree : (b : Bool) → Agree (sizesWords b) (sizesBytes b)
-sizes-agree b = pair-agree number64 u64 (behind number64 unused b) (behind u64 empty b) (agree_same u64) (behind-agree b)
+sizes_agree : (b : Bool) → Agree (sizes_words b) (sizes_bytes b)
+sizes_agree b = pair_agree number64 u64 (behind number64 unused b) (behind u64 empty b) (agree_same u64) (behind_agree b)
 
-pub limits-agree : Agree limitsWords limitsBytes
-limits-agree l = let a = sizes-agree (isPresent l.maximum) (limitsTo l).1 in (λ h. (h.0, a.0 h.1), λ h. (h.0, a.1 h.1))
+pub limits_agree : Agree limits_words limits_bytes
+limits_agree l = let a = sizes_agree (is_present l.maximum) (limits_to l).1 in (λ h. (h.0, a.0 h.1), λ h. (h.0, a.1 h.1))

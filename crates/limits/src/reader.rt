@@ -1,14 +1,14 @@
 // Reading limits: what begins at a place of some bytes, and its words.
 ghost use Rattle.format.specs.Count.{silent};
 ghost use Rattle.format.specs.Walk.{Walks};
-ghost use Rattle.limits.specs.Limits.{sizesWords, sizesBytes, limitsWords, limitsBytes};
+ghost use Rattle.limits.specs.Limits.{sizes_words, sizes_bytes, limits_words, limits_bytes};
 
 use format::{Done, Walk, append_word, append_words};
 use words::read_number64;
 
 // The minimum, and the maximum if there is one.
 fn read_sizes(maximum: bool, b: &[u8], at: usize, out: &mut [u32], s: Done) -> Walk
-    ensures { Walks (sizesBytes maximum) (sizesWords maximum).print silent b.now at out.old s out.new result }
+    ensures { Walks (sizes_bytes maximum) (sizes_words maximum).print silent b.now at out.old s out.new result }
 {
     let Walk::Got(p, t) = read_number64(b, at, out, s) else {
         return Walk::No;
@@ -21,7 +21,7 @@ fn read_sizes(maximum: bool, b: &[u8], at: usize, out: &mut [u32], s: Done) -> W
 
 // Flags: bit 0 says that there is a maximum, bit 1 shared, bit 2 64-bit.
 pub fn read_limits(b: &[u8], at: usize, out: &mut [u32], s: Done) -> Walk
-    ensures { Walks limitsBytes limitsWords.print silent b.now at out.old s out.new result }
+    ensures { Walks limits_bytes limits_words.print silent b.now at out.old s out.new result }
 {
     if b.len() <= at {
         return Walk::No;

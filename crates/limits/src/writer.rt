@@ -1,14 +1,14 @@
 // Writing limits: their words at a place, and their bytes.
 ghost use Rattle.format.specs.Count.{silent};
 ghost use Rattle.format.specs.Walk.{Walks};
-ghost use Rattle.limits.specs.Limits.{sizesWords, sizesBytes, limitsWords, limitsBytes};
+ghost use Rattle.limits.specs.Limits.{sizes_words, sizes_bytes, limits_words, limits_bytes};
 
 use format::{Done, Walk, append_byte};
 use words::{walk_number64, walk_unused};
 
 // The minimum, and the maximum or two unused words.
 fn walk_sizes(maximum: bool, words: &[u32], at: usize, out: &mut [u8], s: Done) -> Walk
-    ensures { Walks (sizesWords maximum) (sizesBytes maximum).print silent words.now at out.old s out.new result }
+    ensures { Walks (sizes_words maximum) (sizes_bytes maximum).print silent words.now at out.old s out.new result }
 {
     let Walk::Got(p, t) = walk_number64(words, at, out, s) else {
         return Walk::No;
@@ -21,7 +21,7 @@ fn walk_sizes(maximum: bool, words: &[u32], at: usize, out: &mut [u8], s: Done) 
 
 // Flags: bit 0 says that there is a maximum, bit 1 shared, bit 2 64-bit.
 pub fn walk_limits(words: &[u32], at: usize, out: &mut [u8], s: Done) -> Walk
-    ensures { Walks limitsWords limitsBytes.print silent words.now at out.old s out.new result }
+    ensures { Walks limits_words limits_bytes.print silent words.now at out.old s out.new result }
 {
     if words.len() <= at {
         return Walk::No;

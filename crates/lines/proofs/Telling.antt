@@ -10,7 +10,7 @@ use mir.Val.{Fits}
 use borrow.Rule.Slice.PartMut.{mid_of}
 use Rattle.format.specs.Parsed.{Parsed, got}
 use Rattle.format.specs.Write as write
-use Rattle.format.specs.Write.{rest-lent}
+use Rattle.format.specs.Write.{rest_lent}
 use Rattle.frames.specs.Append as append
 use Rattle.frames.specs.Frames.{word32}
 use Rattle.frames.specs.declared.State.{State}
@@ -18,10 +18,10 @@ use Rattle.thriftbell.specs.Add.{adding}
 use Rattle.module.specs.Finish.{outcome, finishing}
 use Rattle.module.specs.declared.Finished.{Finished}
 use Rattle.module.specs.declared.Finished.TheVariants.{Length, Refused}
-use Rattle.hex.specs.Frame.{Frame, adds, told, finishTold, wordList, whole, frame_of}
-use Rattle.lines.specs.Done.{done, added, finished, doing, Does, Tells, add-few, finish-few}
+use Rattle.hex_text.specs.Frame.{Frame, adds, told, finish_told, word_list, whole, frame_of}
+use Rattle.lines.specs.Done.{done, added, finished, doing, Does, Tells, add_few, finish_few}
 use Rattle.lines.specs.declared.tell.Told.{Told}
-use Rattle.lines.proofs.Framing.{kind-add, kind-finish}
+use Rattle.lines.proofs.Framing.{kind_add, kind_finish}
 
 -- ---- no frame
 
@@ -29,22 +29,22 @@ module _ {f : Option Frame} {state : State} {store : List ℕ} {r : Told} (q : r
   pub tells_none : Tells f state store store r
   tells_none = record { right = λ buffer. ap (λ (r : Told). done r store buffer) q ∙ sym (ap (doing state store buffer) e) }
 
-  pub does-none : {buffer : List ℕ} → Does f state store buffer store buffer r
-  does-none {buffer} = record { did = tells_none.right buffer }
+  pub does_none : {buffer : List ℕ} → Does f state store buffer store buffer r
+  does_none {buffer} = record { did = tells_none.right buffer }
 
 -- ---- an add
 
 module _ (state : State) (store words text : List ℕ) {number : ℕ} {after : State} {store' : List ℕ}
     (h : ◌≡◌ {A = append.Outcome} (record { number = number; state = after; store = store' }) (adding state store words text)) where
-  pub added-fits : Fits w8 number
-  added-fits = record { fits = omega (arith, ap (λ (o : append.Outcome). o.number) h, add-few state store words text) }
+  pub added_fits : Fits w8 number
+  added_fits = record { fits = omega (arith, ap (λ (o : append.Outcome). o.number) h, add_few state store words text) }
 
-  pub added-told : {r : Told} → r ≡ record { number = number; value = 0; state = after } → Tells (some (adds words text)) state store store' r
-  added-told q = record { right = λ buffer. ap (λ (r : Told). done r store' buffer) q ∙ ap (added buffer) h }
+  pub added_told : {r : Told} → r ≡ record { number = number; value = 0; state = after } → Tells (some (adds words text)) state store store' r
+  added_told q = record { right = λ buffer. ap (λ (r : Told). done r store' buffer) q ∙ ap (added buffer) h }
 
 -- the same frame
-pub tells-same : {f g : Option Frame} {state : State} {store store' : List ℕ} {r : Told} → Tells f state store store' r → f ≡ g → Tells g state store store' r
-tells-same {state} {store} {store'} {r} t e = subst (λ (f : Option Frame). Tells f state store store' r) e t
+pub tells_same : {f g : Option Frame} {state : State} {store store' : List ℕ} {r : Told} → Tells f state store store' r → f ≡ g → Tells g state store store' r
+tells_same {state} {store} {store'} {r} t e = subst (λ (f : Option Frame). Tells f state store store' r) e t
 
 -- ---- a finish
 
@@ -55,33 +55,33 @@ module _ (state : State) (store bytes buffer : List ℕ) (count : ℕ) (buffer' 
   answers e =
       ap (λ (f : Finished). outcome f buffer') (sym e)
       ∙ h
-      ∙ ap (λ (l : List ℕ). finishing state store (told count l) buffer) (rest-lent 4 bytes)
+      ∙ ap (λ (l : List ℕ). finishing state store (told count l) buffer) (rest_lent 4 bytes)
 
-  stands : {y : Finished} → x ≡ y → finished state store (outcome y buffer') ≡ doing state store buffer (whole finishTold (word32.parse bytes))
-  stands e = ap (finished state store) (answers e) ∙ sym (ap (λ (m : Parsed ℕ). doing state store buffer (whole finishTold m)) w)
+  stands : {y : Finished} → x ≡ y → finished state store (outcome y buffer') ≡ doing state store buffer (whole finish_told (word32.parse bytes))
+  stands e = ap (finished state store) (answers e) ∙ sym (ap (λ (m : Parsed ℕ). doing state store buffer (whole finish_told m)) w)
 
-  pub module-told : {n : ℕ} → x ≡ Length n → Does (whole finishTold (word32.parse bytes)) state store buffer store buffer' (record { number = 0; value = n; state = state })
-  module-told e = record { did = stands e }
+  pub module_told : {n : ℕ} → x ≡ Length n → Does (whole finish_told (word32.parse bytes)) state store buffer store buffer' (record { number = 0; value = n; state = state })
+  module_told e = record { did = stands e }
 
   module _ {k : ℕ} (e : x ≡ Refused k) where
-    pub refusal-fits : Fits w8 k
-    refusal-fits = record { fits = omega (arith, ap (λ (o : write.Outcome). o.number) (answers e), finish-few state store (told count (drop 4 bytes)) buffer) }
+    pub refusal_fits : Fits w8 k
+    refusal_fits = record { fits = omega (arith, ap (λ (o : write.Outcome). o.number) (answers e), finish_few state store (told count (drop 4 bytes)) buffer) }
 
-    pub refusal-told : {r : Told} → r ≡ record { number = k; value = 0; state = state } → Does (whole finishTold (word32.parse bytes)) state store buffer store buffer' r
-    refusal-told q = record { did = ap (λ (r : Told). done r store buffer') q ∙ stands e }
+    pub refusal_told : {r : Told} → r ≡ record { number = k; value = 0; state = state } → Does (whole finish_told (word32.parse bytes)) state store buffer store buffer' r
+    refusal_told q = record { did = ap (λ (r : Told). done r store buffer') q ∙ stands e }
 
 -- ---- a frame, by its kind
 
 module _ {state : State} {store buffer : List ℕ} (s : List ℕ) (h : length s ≡ 0 → ⊥) where
-  pub add-told : {store' : List ℕ} {r : Told} → get_or s 0 0 ≡ 1 → Tells (whole adds (wordList.parse (mid_of 1 (length s - 1) s))) state store store' r → Does (frame_of s) state store buffer store' buffer r
-  add-told e t =
+  pub add_told : {store' : List ℕ} {r : Told} → get_or s 0 0 ≡ 1 → Tells (whole adds (word_list.parse (mid_of 1 (length s - 1) s))) state store store' r → Does (frame_of s) state store buffer store' buffer r
+  add_told e t =
       record {
-        did = t.right buffer ∙ ap (doing state store buffer) (ap (λ (l : List ℕ). whole adds (wordList.parse l)) (rest-lent 1 s) ∙ sym (kind-add s h e));
+        did = t.right buffer ∙ ap (doing state store buffer) (ap (λ (l : List ℕ). whole adds (word_list.parse l)) (rest_lent 1 s) ∙ sym (kind_add s h e));
       }
 
-  pub finish-told : {buffer' : List ℕ} {r : Told} → (get_or s 0 0 ≡ 1 → ⊥) → get_or s 0 0 ≡ 2 → Does (whole finishTold (word32.parse (mid_of 1 (length s - 1) s))) state store buffer store buffer' r
+  pub finish_told_lem : {buffer' : List ℕ} {r : Told} → (get_or s 0 0 ≡ 1 → ⊥) → get_or s 0 0 ≡ 2 → Does (whole finish_told (word32.parse (mid_of 1 (length s - 1) s))) state store buffer store buffer' r
       → Does (frame_of s) state store buffer store buffer' r
-  finish-told d e t =
+  finish_told_lem d e t =
       record {
-        did = t.did ∙ ap (doing state store buffer) (ap (λ (l : List ℕ). whole finishTold (word32.parse l)) (rest-lent 1 s) ∙ sym (kind-finish s h d e));
+        did = t.did ∙ ap (doing state store buffer) (ap (λ (l : List ℕ). whole finish_told (word32.parse l)) (rest_lent 1 s) ∙ sym (kind_finish s h d e));
       }

@@ -3,11 +3,11 @@ use Rattle.std.specs.Prelude.{◌≡◌, refl, Bool, true, false, cond, ◌↔�
 use Rattle.std.proofs.Common.{sym, ap, ◌∙◌, arith, eqb-true, ltb-false}
 use Rattle.std.proofs.Math.Option.{Option, none, some, none-ne-some}
 use Rattle.std.proofs.lemmas.Bool.{eqb-false}
-use Rattle.format.specs.Answers.{answer, settled, settled-accepts, settled-refuses, settled-exactly, accepted-exactly}
+use Rattle.format.specs.Answers.{answer, settled, settled_accepts, settled_refuses, settled_exactly, accepted_exactly}
 use Rattle.format.specs.Lists.{All}
 use Rattle.format.specs.Write as write
 use Rattle.frames.specs.Frames.{held}
-use Rattle.frames.specs.Builder.{framesIn}
+use Rattle.frames.specs.Builder.{frames_in}
 use Rattle.frames.specs.declared.State.{State}
 use Rattle.sections.specs.Section.{Ending}
 use Rattle.frames.specs.Append as append
@@ -16,7 +16,7 @@ use Rattle.thriftbell.specs.Add.{adding}
 use Rattle.module.specs.Module.{module_of}
 use Rattle.module.specs.Finish as finish
 use Rattle.module.specs.Finish.{finishing}
-use Rattle.hex.specs.Frame.{Frame, adds, finishes}
+use Rattle.hex_text.specs.Frame.{Frame, adds, finishes}
 use Rattle.lines.specs.declared.tell.Told.{Told}
 
 -- a number of the table, the module's length or 0; and the state, the store and the module's buffer, afterwards
@@ -55,55 +55,55 @@ pub record Tells (f : Option Frame) (state : State) (xs ys : List ℕ) (r : Told
 
 -- ---- 12 is given exactly where the line holds no frame: the others' numbers are lower
 
-picked-most : (m : ℕ) (t : Bool) {a b : ℕ} → a ≤ m → b ≤ m → cond t a b ≤ m
-picked-most m true h k = h
-picked-most m false h k = k
+picked_most : (m : ℕ) (t : Bool) {a b : ℕ} → a ≤ m → b ≤ m → cond t a b ≤ m
+picked_most m true h k = h
+picked_most m false h k = k
 
-answer-most : (m : ℕ) (cs : List (ℕ × Bool)) → All (λ c. c.0 ≤ m) cs → answer cs ≤ m
-answer-most m [] h = omega arith
-answer-most m (c ∷ cs) h = picked-most m c.1 h.0 (answer-most m cs h.1)
+answer_most : (m : ℕ) (cs : List (ℕ × Bool)) → All (λ c. c.0 ≤ m) cs → answer cs ≤ m
+answer_most m [] h = omega arith
+answer_most m (c ∷ cs) h = picked_most m c.1 h.0 (answer_most m cs h.1)
 
-pub add-few : (state : State) (store words text : List ℕ) → (adding state store words text).number ≤ 7
+pub add_few : (state : State) (store words text : List ℕ) → (adding state store words text).number ≤ 7
 unfolding adding
-add-few state store words text =
-    let e = (settled-exactly (append.refused state store) (add.added state store words text) (λ o. o.number) refl (λ n. refl) {P = answer (add.conditions state store words text) ≡ (adding state store words text).number} (λ e. e, λ e. e)).0 refl in
-    let m = answer-most 7 (add.conditions state store words text) (omega arith, (omega arith, (omega arith, (omega arith, (omega arith, (omega arith, (omega arith, tt))))))) in
+add_few state store words text =
+    let e = (settled_exactly (append.refused state store) (add.added state store words text) (λ o. o.number) refl (λ n. refl) {P = answer (add.conditions state store words text) ≡ (adding state store words text).number} (λ e. e, λ e. e)).0 refl in
+    let m = answer_most 7 (add.conditions state store words text) (omega arith, (omega arith, (omega arith, (omega arith, (omega arith, (omega arith, (omega arith, tt))))))) in
     omega arith
 
-pub finish-few : (state : State) (store : List ℕ) (e : Ending) (buffer : List ℕ) → (finishing state store e buffer).number ≤ 10
+pub finish_few : (state : State) (store : List ℕ) (e : Ending) (buffer : List ℕ) → (finishing state store e buffer).number ≤ 10
 unfolding finishing
-finish-few state store e buffer =
-    let d = (settled-exactly (finish.refused buffer) (finish.finished e (framesIn state store) buffer) (λ o. o.number) refl (λ n. refl) {P = answer (finish.conditions state store e buffer) ≡ (finishing state store e buffer).number} (λ q. q, λ q. q)).0 refl in
-    let m = answer-most 10 (finish.conditions state store e buffer) (omega arith, (omega arith, (omega arith, (omega arith, tt)))) in
+finish_few state store e buffer =
+    let d = (settled_exactly (finish.refused buffer) (finish.finished e (frames_in state store) buffer) (λ o. o.number) refl (λ n. refl) {P = answer (finish.conditions state store e buffer) ≡ (finishing state store e buffer).number} (λ q. q, λ q. q)).0 refl in
+    let m = answer_most 10 (finish.conditions state store e buffer) (omega arith, (omega arith, (omega arith, (omega arith, tt)))) in
     omega arith
 
-pub twelve-exactly : (state : State) (store buffer : List ℕ) (f : Option Frame) → ((doing state store buffer f).number ≡ 12) ↔ (f ≡ none)
-twelve-exactly state store buffer none = (λ e. refl, λ e. refl)
-twelve-exactly state store buffer (some (adds words text)) =
-    (λ e. absurd (omega (arith, add-few state store words text)), λ e. absurd (none-ne-some (adds words text) (sym e)))
-twelve-exactly state store buffer (some (finishes e)) =
-    (λ h. absurd (omega (arith, finish-few state store e buffer)), λ h. absurd (none-ne-some (finishes e) (sym h)))
+pub twelve_exactly : (state : State) (store buffer : List ℕ) (f : Option Frame) → ((doing state store buffer f).number ≡ 12) ↔ (f ≡ none)
+twelve_exactly state store buffer none = (λ e. refl, λ e. refl)
+twelve_exactly state store buffer (some (adds words text)) =
+    (λ e. absurd (omega (arith, add_few state store words text)), λ e. absurd (none-ne-some (adds words text) (sym e)))
+twelve_exactly state store buffer (some (finishes e)) =
+    (λ h. absurd (omega (arith, finish_few state store e buffer)), λ h. absurd (none-ne-some (finishes e) (sym h)))
 
 -- ---- a module fits the buffer that it stands in
 
-finish-fits : (state : State) (store : List ℕ) (e : Ending) (buffer : List ℕ) → (finishing state store e buffer).value ≤ length buffer
+finish_fits : (state : State) (store : List ℕ) (e : Ending) (buffer : List ℕ) → (finishing state store e buffer).value ≤ length buffer
 unfolding finishing
-finish-fits state store e buffer = go (eqb (answer cs) 0) refl
+finish_fits state store e buffer = go (eqb (answer cs) 0) refl
   where
     cs : List (ℕ × Bool)
     cs = finish.conditions state store e buffer
 
     go : (t : Bool) → eqb (answer cs) 0 ≡ t → (finishing state store e buffer).value ≤ length buffer
     go true p =
-        let h = (accepted-exactly cs refl).0 (eqb-true (answer cs) 0 p) in
-        rw (← (finish.accepts state store e buffer h)) (ltb-false (length buffer) (length (module_of e (held (framesIn state store)))) (finish.clear state store e buffer h).roomy)
+        let h = (accepted_exactly cs refl).0 (eqb-true (answer cs) 0 p) in
+        rw (← (finish.accepts state store e buffer h)) (ltb-false (length buffer) (length (module_of e (held (frames_in state store)))) (finish.clear state store e buffer h).roomy)
     go false p =
-        omega (arith, ap (λ (o : write.Outcome). o.value) (settled-refuses (finish.refused buffer) (finish.finished e (framesIn state store) buffer) (answer cs) (eqb-false (answer cs) 0 p)))
+        omega (arith, ap (λ (o : write.Outcome). o.value) (settled_refuses (finish.refused buffer) (finish.finished e (frames_in state store) buffer) (answer cs) (eqb-false (answer cs) 0 p)))
 
-pub value-fits : (state : State) (store buffer : List ℕ) (f : Option Frame) → (doing state store buffer f).value ≤ length buffer
-value-fits state store buffer none = omega arith
-value-fits state store buffer (some (adds words text)) = omega arith
-value-fits state store buffer (some (finishes e)) = finish-fits state store e buffer
+pub value_fits : (state : State) (store buffer : List ℕ) (f : Option Frame) → (doing state store buffer f).value ≤ length buffer
+value_fits state store buffer none = omega arith
+value_fits state store buffer (some (adds words text)) = omega arith
+value_fits state store buffer (some (finishes e)) = finish_fits state store e buffer
 
 -- ---- a refused line changes nothing, and a finish neither store nor state
 
@@ -113,19 +113,19 @@ kept : {O : Type 0} (refused : ℕ → O) (accepted : O) (number : O → ℕ) �
 kept {O} refused accepted number a r n h = go (eqb n 0) refl
   where
     go : (t : Bool) → eqb n 0 ≡ t → settled refused accepted n ≡ refused (number (settled refused accepted n))
-    go true e = absurd (h (ap number (settled-accepts refused accepted n (eqb-true n 0 e)) ∙ a))
-    go false e = let s = settled-refuses refused accepted n (eqb-false n 0 e) in s ∙ ap refused (sym (ap number s ∙ r n))
+    go true e = absurd (h (ap number (settled_accepts refused accepted n (eqb-true n 0 e)) ∙ a))
+    go false e = let s = settled_refuses refused accepted n (eqb-false n 0 e) in s ∙ ap refused (sym (ap number s ∙ r n))
 
-pub refused-keeps : (state : State) (store buffer : List ℕ) (f : Option Frame) → ((doing state store buffer f).number ≡ 0 → ⊥)
+pub refused_keeps : (state : State) (store buffer : List ℕ) (f : Option Frame) → ((doing state store buffer f).number ≡ 0 → ⊥)
     → doing state store buffer f ≡ record { number = (doing state store buffer f).number; value = 0; state = state; store = store; buffer = buffer }
 unfolding adding finishing
-refused-keeps state store buffer none h = refl
-refused-keeps state store buffer (some (adds words text)) h =
+refused_keeps state store buffer none h = refl
+refused_keeps state store buffer (some (adds words text)) h =
     ap (added buffer) (kept (append.refused state store) (add.added state store words text) (λ o. o.number) refl (λ n. refl) (answer (add.conditions state store words text)) h)
-refused-keeps state store buffer (some (finishes e)) h =
+refused_keeps state store buffer (some (finishes e)) h =
     ap (finished state store)
-    (kept (finish.refused buffer) (finish.finished e (framesIn state store) buffer) (λ o. o.number) refl (λ n. refl) (answer (finish.conditions state store e buffer)) h)
+    (kept (finish.refused buffer) (finish.finished e (frames_in state store) buffer) (λ o. o.number) refl (λ n. refl) (answer (finish.conditions state store e buffer)) h)
 
-pub finish-keeps : (state : State) (store buffer : List ℕ) (e : Ending)
+pub finish_keeps : (state : State) (store buffer : List ℕ) (e : Ending)
     → ((doing state store buffer (some (finishes e))).state ≡ state) × ((doing state store buffer (some (finishes e))).store ≡ store)
-finish-keeps state store buffer e = (refl, refl)
+finish_keeps state store buffer e = (refl, refl)

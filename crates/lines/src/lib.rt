@@ -4,7 +4,7 @@ mod tell;
 ghost use Rattle.std.specs.Prelude.{◌≡◌};
 ghost use Rattle.lines.specs.Answer.{outcome, answering};
 
-use hex::{frame_bytes, put_answer};
+use hex_text::{frame_bytes, put_answer};
 use tell::tell;
 use thriftbell::{State, Written};
 

@@ -2,10 +2,10 @@
 ghost use Rattle.std.specs.Prelude.{◌≡◌, ◌≤◌, length};
 ghost use Rattle.std.proofs.Math.Option.{some};
 ghost use Rattle.frames.specs.Frames.{word32};
-ghost use Rattle.hex.specs.Frame.{adds, finishTold, wordList, whole, frame_of};
+ghost use Rattle.hex_text.specs.Frame.{adds, finish_told, word_list, whole, frame_of};
 ghost use Rattle.lines.specs.Done.{Does, Tells};
 
-use hex::{read_words, word_at};
+use hex_text::{read_words, word_at};
 use thriftbell::{Finished, Given, State, add, finish};
 
 // The number of the table, how many bytes the module has or 0, and the state.
@@ -38,7 +38,7 @@ fn add_words(words: &[u32], text: &[u8], state: State, store: &mut [u8]) -> Told
 // Few bytes hold few words, so that there is room for them.
 fn add_frame(bytes: &[u8], state: State, store: &mut [u8]) -> Told
     requires { length bytes.now ≤ 4096 }
-    ensures { Tells (whole adds (wordList.parse bytes.now)) state store.old store.new result }
+    ensures { Tells (whole adds (word_list.parse bytes.now)) state store.old store.new result }
 {
     if bytes.len() < 2 {
         return plain(12, state);
@@ -53,7 +53,7 @@ fn add_frame(bytes: &[u8], state: State, store: &mut [u8]) -> Told
 }
 
 fn finish_frame(bytes: &[u8], state: State, store: &[u8], buffer: &mut [u8]) -> Told
-    ensures { Does (whole finishTold (word32.parse bytes.now)) state store.now buffer.old store.now buffer.new result }
+    ensures { Does (whole finish_told (word32.parse bytes.now)) state store.now buffer.old store.now buffer.new result }
 {
     if bytes.len() < 4 {
         return plain(12, state);

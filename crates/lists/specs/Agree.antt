@@ -1,20 +1,20 @@
 -- The lists that have words are those that have bytes (document 01, Records). Assumes nothing.
-use Rattle.format.specs.Agree.{Agree, many-agree}
+use Rattle.format.specs.Agree.{Agree, many_agree}
 use Rattle.leb128.specs.Formats.{u32}
 use Rattle.words.specs.Words.{word}
-use Rattle.types.specs.Agree.{val-agree, field-agree}
-use Rattle.types.specs.Vals.{valWords, valBytes, fieldWords, fieldBytes}
-use Rattle.lists.specs.Member.{listWords, listBytes}
+use Rattle.types.specs.Agree.{val_agree, field_agree}
+use Rattle.types.specs.Vals.{val_words, val_bytes, field_words, field_bytes}
+use Rattle.lists.specs.Member.{list_words, list_bytes}
 use Rattle.lists.specs.declared.Member.TheVariants.{Index, Val, Field}
 
-pub index-agree : Agree word u32
-index-agree n = (λ h. h, λ h. h)
+pub index_agree : Agree word u32
+index_agree n = (λ h. h, λ h. h)
 
-pub indices-agree : Agree (listWords Index) (listBytes Index)
-indices-agree = many-agree word u32 word u32 index-agree index-agree
+pub indices_agree : Agree (list_words Index) (list_bytes Index)
+indices_agree = many_agree word u32 word u32 index_agree index_agree
 
-pub vals-agree : Agree (listWords Val) (listBytes Val)
-vals-agree = many-agree word u32 valWords valBytes index-agree val-agree
+pub vals_agree : Agree (list_words Val) (list_bytes Val)
+vals_agree = many_agree word u32 val_words val_bytes index_agree val_agree
 
-pub fields-agree : Agree (listWords Field) (listBytes Field)
-fields-agree = many-agree word u32 fieldWords fieldBytes index-agree field-agree
+pub fields_agree : Agree (list_words Field) (list_bytes Field)
+fields_agree = many_agree word u32 field_words field_bytes index_agree field_agree

@@ -4,12 +4,12 @@ use Rattle.std.specs.Prelude.{List, ℕ, ◌<◌, false, pos, length}
 use Rattle.std.proofs.Common.{arith, length-append}
 use Rattle.format.specs.Format.{Format}
 use Rattle.format.specs.Basic.{flag}
-use Rattle.format.specs.Alternatives.{heads-long}
+use Rattle.format.specs.Alternatives.{heads_long}
 use Rattle.format.specs.Lists.{many}
-use Rattle.leb128.specs.LebLaws.{leb-some}
+use Rattle.leb128.specs.LebLaws.{leb_some}
 use Rattle.leb128.specs.Formats.{u32}
 use Rattle.words.specs.Words.{word}
-use Rattle.types.specs.Vals.{valWords, valBytes, is_packed, isPackedByte, val-not-packed, val-byte-not-packed, storageWords, storageBytes, field, fieldWords, fieldBytes}
+use Rattle.types.specs.Vals.{val_words, val_bytes, is_packed, is_packed_byte, val_not_packed, val_byte_not_packed, storage_words, storage_bytes, field, field_words, field_bytes}
 use Rattle.types.specs.declared.ValType.{ValType}
 use Rattle.types.specs.declared.FieldType.{FieldType}
 use Rattle.types.specs.declared.StorageType.{StorageType}
@@ -22,32 +22,32 @@ Value Index = ℕ
 Value Val = ValType
 Value Field = FieldType
 
-abbrev pub memberWords : (m : Member) → Format (Value m)
-memberWords Index = word
-memberWords Val = valWords
-memberWords Field = fieldWords
+abbrev pub member_words : (m : Member) → Format (Value m)
+member_words Index = word
+member_words Val = val_words
+member_words Field = field_words
 
-abbrev pub memberBytes : (m : Member) → Format (Value m)
-memberBytes Index = u32
-memberBytes Val = valBytes
-memberBytes Field = fieldBytes
+abbrev pub member_bytes : (m : Member) → Format (Value m)
+member_bytes Index = u32
+member_bytes Val = val_bytes
+member_bytes Field = field_bytes
 
-abbrev pub listWords : (m : Member) → Format (List (Value m))
-listWords m = many word (memberWords m)
+abbrev pub list_words : (m : Member) → Format (List (Value m))
+list_words m = many word (member_words m)
 
-abbrev pub listBytes : (m : Member) → Format (List (Value m))
-listBytes m = many u32 (memberBytes m)
+abbrev pub list_bytes : (m : Member) → Format (List (Value m))
+list_bytes m = many u32 (member_bytes m)
 
 -- a member takes a word, and a byte, at least
-field-long : (F : Format StorageType) (f : FieldType) → 0 < length ((field F).print f)
-field-long F f = omega (arith, length-append (F.print f.element_type) (flag.print f.mutable))
+field_long : (F : Format StorageType) (f : FieldType) → 0 < length ((field F).print f)
+field_long F f = omega (arith, length-append (F.print f.element_type) (flag.print f.mutable))
 
-pub words_long : (m : Member) (a : Value m) → (memberWords m).Ok a → 0 < length ((memberWords m).print a)
+pub words_long : (m : Member) (a : Value m) → (member_words m).Ok a → 0 < length ((member_words m).print a)
 words_long Index a ok = omega arith
-words_long Val a ok = heads-long valWords is_packed false val-not-packed a ok
-words_long Field a ok = field-long storageWords a
+words_long Val a ok = heads_long val_words is_packed false val_not_packed a ok
+words_long Field a ok = field_long storage_words a
 
-pub bytes-long : (m : Member) (a : Value m) → (memberBytes m).Ok a → 0 < length ((memberBytes m).print a)
-bytes-long Index a ok = leb-some false (pos a)
-bytes-long Val a ok = heads-long valBytes isPackedByte false val-byte-not-packed a ok
-bytes-long Field a ok = field-long storageBytes a
+pub bytes_long : (m : Member) (a : Value m) → (member_bytes m).Ok a → 0 < length ((member_bytes m).print a)
+bytes_long Index a ok = leb_some false (pos a)
+bytes_long Val a ok = heads_long val_bytes is_packed_byte false val_byte_not_packed a ok
+bytes_long Field a ok = field_long storage_bytes a

@@ -4,7 +4,7 @@ ghost use Rattle.format.specs.Count.{silent};
 ghost use Rattle.format.specs.Loop.{Members};
 ghost use Rattle.format.specs.Walk.{Walks};
 ghost use Rattle.leb128.specs.Formats.{u32};
-ghost use Rattle.lists.specs.Member.{memberWords, memberBytes, listWords, listBytes};
+ghost use Rattle.lists.specs.Member.{member_words, member_bytes, list_words, list_bytes};
 
 use crate::Member;
 use format::{Done, Walk, append_word};
@@ -13,7 +13,7 @@ use vals::{read_field, read_val};
 use words::read_index;
 
 fn read_member(m: Member, b: &[u8], at: usize, out: &mut [u32], s: Done) -> Walk
-    ensures { Walks (memberBytes m) (memberWords m).print silent b.now at out.old s out.new result }
+    ensures { Walks (member_bytes m) (member_words m).print silent b.now at out.old s out.new result }
 {
     match m {
         Member::Index => read_index(b, at, out, s),
@@ -25,7 +25,7 @@ fn read_member(m: Member, b: &[u8], at: usize, out: &mut [u32], s: Done) -> Walk
 // n members.
 fn read_members(m: Member, n: usize, b: &[u8], at: usize, out: &mut [u32], s: Done) -> Walk
     requires { at ≤ length b.now }
-    ensures { Members (memberBytes m) (memberWords m).print b.now at n out.old s out.new result }
+    ensures { Members (member_bytes m) (member_words m).print b.now at n out.old s out.new result }
 {
     let mut t = s;
     let mut p = at;
@@ -43,7 +43,7 @@ fn read_members(m: Member, n: usize, b: &[u8], at: usize, out: &mut [u32], s: Do
 
 // A count larger than what is left is answered at once, since each member takes a byte.
 pub fn read_list(m: Member, b: &[u8], at: usize, out: &mut [u32], s: Done) -> Walk
-    ensures { Walks (listBytes m) (listWords m).print silent b.now at out.old s out.new result }
+    ensures { Walks (list_bytes m) (list_words m).print silent b.now at out.old s out.new result }
 {
     let ReadU32::Value(n, p) = numbers::decode_u32(b, at) else {
         return Walk::No;

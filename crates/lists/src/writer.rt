@@ -4,7 +4,7 @@ ghost use Rattle.format.specs.Count.{silent};
 ghost use Rattle.format.specs.Loop.{Members};
 ghost use Rattle.format.specs.Walk.{Walks};
 ghost use Rattle.leb128.specs.Formats.{u32};
-ghost use Rattle.lists.specs.Member.{memberWords, memberBytes, listWords, listBytes};
+ghost use Rattle.lists.specs.Member.{member_words, member_bytes, list_words, list_bytes};
 
 use crate::Member;
 use format::{Done, Walk};
@@ -13,7 +13,7 @@ use vals::{walk_field, walk_val};
 use words::walk_index;
 
 fn walk_member(m: Member, words: &[u32], at: usize, out: &mut [u8], s: Done) -> Walk
-    ensures { Walks (memberWords m) (memberBytes m).print silent words.now at out.old s out.new result }
+    ensures { Walks (member_words m) (member_bytes m).print silent words.now at out.old s out.new result }
 {
     match m {
         Member::Index => walk_index(words, at, out, s),
@@ -25,7 +25,7 @@ fn walk_member(m: Member, words: &[u32], at: usize, out: &mut [u8], s: Done) -> 
 // n members.
 fn walk_members(m: Member, n: usize, words: &[u32], at: usize, out: &mut [u8], s: Done) -> Walk
     requires { at ≤ length words.now }
-    ensures { Members (memberWords m) (memberBytes m).print words.now at n out.old s out.new result }
+    ensures { Members (member_words m) (member_bytes m).print words.now at n out.old s out.new result }
 {
     let mut t = s;
     let mut p = at;
@@ -43,7 +43,7 @@ fn walk_members(m: Member, n: usize, words: &[u32], at: usize, out: &mut [u8], s
 
 // A count larger than what is left is answered at once, since each member takes a word.
 pub fn walk_list(m: Member, words: &[u32], at: usize, out: &mut [u8], s: Done) -> Walk
-    ensures { Walks (listWords m) (listBytes m).print silent words.now at out.old s out.new result }
+    ensures { Walks (list_words m) (list_bytes m).print silent words.now at out.old s out.new result }
 {
     if words.len() <= at {
         return Walk::No;

@@ -17,8 +17,8 @@ stands k w at h e = rw (drop_more w at h, e)
 
 module _ {A : Type 0} (k : ℕ) (F : Format A) (w : List ℕ) (at : ℕ) where
   module _ (h : at < length w) where
-    pub tag-not : (get_or w at 0 ≡ k → ⊥) → (tag k F).parse (drop at w) ≡ fail
-    tag-not n = rw (drop_more w at h, ne_eqb (get_or w at 0) k n)
+    pub tag_not : (get_or w at 0 ≡ k → ⊥) → (tag k F).parse (drop at w) ≡ fail
+    tag_not n = rw (drop_more w at h, ne_eqb (get_or w at 0) k n)
 
     tag_is : get_or w at 0 ≡ k → (tag k F).parse (drop at w) ≡ F.parse (drop (at + 1) w)
     tag_is e = rw (stands k w at h e, eq-eqb k k refl)

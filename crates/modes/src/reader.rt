@@ -1,9 +1,9 @@
 // Reading where elements go: what begins at a place of some bytes, and its words.
 ghost use Rattle.std.specs.Prelude.{List, [], ◌∷◌, ℕ, ◌≤◌, length};
 ghost use Rattle.format.specs.Count.{Appends};
-ghost use Rattle.texts.specs.Judge.{textMost};
+ghost use Rattle.texts.specs.Judge.{text_most};
 ghost use Rattle.parts.specs.Reading.{Reading};
-ghost use Rattle.modes.specs.Mode.{modeWords, nowhere, place};
+ghost use Rattle.modes.specs.Mode.{mode_words, nowhere, place};
 ghost use Rattle.modes.specs.declared.Mode.TheVariants.{ActiveTable};
 
 use crate::Mode;
@@ -21,7 +21,7 @@ pub fn append_two(a: u32, b: u32, out: &mut [u32], s: Done) -> Done
 
 // The mode word and the table flag.
 pub fn append_mode(m: Mode, out: &mut [u32], s: Done) -> Done
-    ensures { Appends (modeWords.print m) out.old s out.new result }
+    ensures { Appends (mode_words.print m) out.old s out.new result }
 {
     match m {
         Mode::Active => append_two(2, 0, out, s),
@@ -41,7 +41,7 @@ fn read_nowhere(at: usize, out: &mut [u32], s: Done) -> Walk
 
 // The table, and the offset.
 fn read_table_offset(b: &[u8], at: usize, out: &mut [u32], s: Done) -> Walk
-    requires { length b.now ≤ textMost }
+    requires { length b.now ≤ text_most }
     ensures { Reading (place ActiveTable) b.now at out.old s out.new result }
 {
     let Walk::Got(p, t) = read_index(b, at, out, s) else {
@@ -51,7 +51,7 @@ fn read_table_offset(b: &[u8], at: usize, out: &mut [u32], s: Done) -> Walk
 }
 
 pub fn read_place(m: Mode, b: &[u8], at: usize, out: &mut [u32], s: Done) -> Walk
-    requires { length b.now ≤ textMost }
+    requires { length b.now ≤ text_most }
     ensures { Reading (place m) b.now at out.old s out.new result }
 {
     match m {

@@ -1,7 +1,7 @@
 // Writing where elements go: its words at a place, and its bytes.
 ghost use Rattle.std.specs.Prelude.{◌≡◌, List, ℕ, drop};
 ghost use Rattle.parts.specs.Writing.{Writing};
-ghost use Rattle.modes.specs.Mode.{modeWords, modeRead, nowhere, place};
+ghost use Rattle.modes.specs.Mode.{mode_words, mode_read, nowhere, place};
 ghost use Rattle.modes.specs.declared.Mode.TheVariants.{Active, ActiveTable};
 
 use crate::{Mode, ModeRead};
@@ -11,7 +11,7 @@ use words::{walk_index, walk_unused};
 
 // The mode word and the table flag, which is set only if active.
 pub fn find_mode(words: &[u32], at: usize) -> ModeRead
-    ensures { result ≡ modeRead (modeWords.parse (drop at words.now)) }
+    ensures { result ≡ mode_read (mode_words.parse (drop at words.now)) }
 {
     if words.len() <= at {
         return ModeRead::No;

@@ -5,9 +5,9 @@ ghost use Rattle.std.specs.Prelude.{◌≡◌, true, ◌≤◌, length};
 ghost use Rattle.format.specs.Runs.{run};
 ghost use Rattle.format.specs.Write.{Writes};
 ghost use Rattle.frames.specs.Frames.{frame};
-ghost use Rattle.frames.specs.Builder.{storeMost};
+ghost use Rattle.frames.specs.Builder.{store_most};
 ghost use Rattle.sections.specs.Section.{ending};
-ghost use Rattle.sections.specs.Order.{orderMost, orderIds, allAmong};
+ghost use Rattle.sections.specs.Order.{order_most, order_ids, all_among};
 ghost use Rattle.module.specs.Module.{header};
 ghost use Rattle.module.specs.Finish.{outcome, building, finishing};
 
@@ -43,9 +43,9 @@ pub fn put_header(out: &mut [u8]) -> Written
 }
 
 fn build(frames: &[u8], order: &[u8], given: Given, out: &mut [u8]) -> Finished
-    requires order_value { allAmong orderIds order.now ≡ true }
-    requires order_len_bound { length order.now ≤ orderMost }
-    requires frames_len_bound { length frames.now ≤ storeMost }
+    requires order_value { all_among order_ids order.now ≡ true }
+    requires order_len_bound { length order.now ≤ order_most }
+    requires frames_len_bound { length frames.now ≤ store_most }
     ensures { outcome result out.new ≡ building (ending order.now given) (run frame frames.now) out.old }
 {
     let t = frames::tally(frames);

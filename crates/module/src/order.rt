@@ -1,10 +1,10 @@
 // The order list of a finish.
 ghost use Rattle.std.specs.Prelude.{◌≡◌};
 ghost use Rattle.frames.specs.Ids.{among};
-ghost use Rattle.sections.specs.Order.{orderIds, allAmong};
+ghost use Rattle.sections.specs.Order.{order_ids, all_among};
 
 fn is_order_id(id: u8) -> bool
-    ensures { result ≡ among orderIds id }
+    ensures { result ≡ among order_ids id }
 {
     if id == 12 {
         return true;
@@ -14,7 +14,7 @@ fn is_order_id(id: u8) -> bool
 
 // Whether an order list has only ids that it may have.
 pub fn is_order(order: &[u8]) -> bool
-    ensures { result ≡ allAmong orderIds order.now }
+    ensures { result ≡ all_among order_ids order.now }
 {
     let mut i: usize = 0;
     while i < order.len() {

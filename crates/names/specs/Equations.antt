@@ -5,7 +5,7 @@ use Rattle.std.proofs.Common.{sym, inl, inr, ⊎_elim, true≢false, arith, lt-l
 use Rattle.std.proofs.lemmas.Bool.{lt-leb}
 use Rattle.format.specs.Write.{fits_or}
 use Rattle.names.specs.Utf8.{surrogate, scalar, utf8}
-use Rattle.names.specs.Char.{by-range, both_true}
+use Rattle.names.specs.Char.{by_range, both_true}
 
 -- b2, b3, b4: continuation bytes
 pub record Cont (b : ℕ) : Type 0 where
@@ -21,15 +21,15 @@ pub data Encodes (ch : ℕ) : List ℕ → Type 0 where
   one_byte : (b : ℕ) → ch < 0x80 → ch ≡ b → Encodes ch (b ∷ [])
   two_bytes : (b1 b2 : ℕ) → 0x80 ≤ ch → ch < 0x800 → 0xC0 ≤ b1 → Cont b2
       → ch ≡ 2 ^ 6 * (b1 - 0xC0) + (b2 - 0x80) → Encodes ch (b1 ∷ b2 ∷ [])
-  three-bytes : (b1 b2 b3 : ℕ) → ((0x800 ≤ ch) × (ch < 0xD800)) ⊎ ((0xE000 ≤ ch) × (ch < 0x10000)) → 0xE0 ≤ b1 → Cont b2 → Cont b3
+  three_bytes : (b1 b2 b3 : ℕ) → ((0x800 ≤ ch) × (ch < 0xD800)) ⊎ ((0xE000 ≤ ch) × (ch < 0x10000)) → 0xE0 ≤ b1 → Cont b2 → Cont b3
       → ch ≡ 2 ^ 12 * (b1 - 0xE0) + 2 ^ 6 * (b2 - 0x80) + (b3 - 0x80) → Encodes ch (b1 ∷ b2 ∷ b3 ∷ [])
   four_bytes : (b1 b2 b3 b4 : ℕ) → 0x10000 ≤ ch → ch < 0x110000 → 0xF0 ≤ b1 → Cont b2 → Cont b3 → Cont b4
       → ch ≡ 2 ^ 18 * (b1 - 0xF0) + 2 ^ 12 * (b2 - 0x80) + 2 ^ 6 * (b3 - 0x80) + (b4 - 0x80) → Encodes ch (b1 ∷ b2 ∷ b3 ∷ b4 ∷ [])
 
 -- a scalar value is below 110000 and no surrogate
-in-range : (c : ℕ) → (c < 0xD800) ⊎ ((0xE000 ≤ c) × (c < 0x110000)) → scalar c ≡ true
-in-range c (inl h) = rw (lt-ltb c 0x110000 (omega arith), lt-leb 0xD800 c h)
-in-range c (inr (h, k)) = rw (lt-ltb c 0x110000 k, le-leb 0xD800 c (omega arith), le-ltb c 0xE000 h)
+in_range : (c : ℕ) → (c < 0xD800) ⊎ ((0xE000 ≤ c) × (c < 0x110000)) → scalar c ≡ true
+in_range c (inl h) = rw (lt-ltb c 0x110000 (omega arith), lt-leb 0xD800 c h)
+in_range c (inr (h, k)) = rw (lt-ltb c 0x110000 k, le-leb 0xD800 c (omega arith), le-ltb c 0xE000 h)
 
 -- ---- the bytes are those that the equations fix
 
@@ -38,43 +38,43 @@ Fixed c s = (scalar c ≡ true) × (s ≡ utf8 c)
 
 only_one : (c b : ℕ) → c < 0x80 → c ≡ b → Fixed c (b ∷ [])
 unfolding utf8
-only_one c b h e = (in-range c (inl (omega arith)), rw (lt-ltb c 0x80 h) (cc))
+only_one c b h e = (in_range c (inl (omega arith)), rw (lt-ltb c 0x80 h) (cc))
 
 only_two : (c b1 b2 : ℕ) → 0x80 ≤ c → c < 0x800 → 0xC0 ≤ b1 → Cont b2 → c ≡ 2 ^ 6 * (b1 - 0xC0) + (b2 - 0x80) → Fixed c (b1 ∷ b2 ∷ [])
 unfolding utf8
 only_two c b1 b2 h k l m e =
     let p : b1 ≡ 0xC0 + c / 64 = omega arith in
     let q : b2 ≡ 0x80 + c % 64 = omega arith in
-    (in-range c (inl (omega arith)), rw (le-ltb c 0x80 h, lt-ltb c 0x800 k) (cc))
+    (in_range c (inl (omega arith)), rw (le-ltb c 0x80 h, lt-ltb c 0x800 k) (cc))
 
-only-three : (c b1 b2 b3 : ℕ) → 0x800 ≤ c → c < 0x10000 → (c < 0xD800) ⊎ ((0xE000 ≤ c) × (c < 0x110000)) → 0xE0 ≤ b1 → Cont b2 → Cont b3
+only_three : (c b1 b2 b3 : ℕ) → 0x800 ≤ c → c < 0x10000 → (c < 0xD800) ⊎ ((0xE000 ≤ c) × (c < 0x110000)) → 0xE0 ≤ b1 → Cont b2 → Cont b3
     → c ≡ 2 ^ 12 * (b1 - 0xE0) + 2 ^ 6 * (b2 - 0x80) + (b3 - 0x80) → Fixed c (b1 ∷ b2 ∷ b3 ∷ [])
 unfolding utf8
-only-three c b1 b2 b3 h k i l m n e =
+only_three c b1 b2 b3 h k i l m n e =
     let d : c / 64 ≡ 2 ^ 6 * (b1 - 0xE0) + (b2 - 0x80) = omega arith in
     let p : b1 ≡ 0xE0 + c / 64 / 64 = omega arith in
     let q : b2 ≡ 0x80 + c / 64 % 64 = omega arith in
     let r : b3 ≡ 0x80 + c % 64 = omega arith in
-    (in-range c i, rw (le-ltb c 0x80 (omega arith), le-ltb c 0x800 h, lt-ltb c 0x10000 k) (cc))
+    (in_range c i, rw (le-ltb c 0x80 (omega arith), le-ltb c 0x800 h, lt-ltb c 0x10000 k) (cc))
 
-only-four : (c b1 b2 b3 b4 : ℕ) → 0x10000 ≤ c → c < 0x110000 → 0xF0 ≤ b1 → Cont b2 → Cont b3 → Cont b4
+only_four : (c b1 b2 b3 b4 : ℕ) → 0x10000 ≤ c → c < 0x110000 → 0xF0 ≤ b1 → Cont b2 → Cont b3 → Cont b4
     → c ≡ 2 ^ 18 * (b1 - 0xF0) + 2 ^ 12 * (b2 - 0x80) + 2 ^ 6 * (b3 - 0x80) + (b4 - 0x80) → Fixed c (b1 ∷ b2 ∷ b3 ∷ b4 ∷ [])
 unfolding utf8
-only-four c b1 b2 b3 b4 h k l m n o e =
+only_four c b1 b2 b3 b4 h k l m n o e =
     let d : c / 64 ≡ 2 ^ 12 * (b1 - 0xF0) + 2 ^ 6 * (b2 - 0x80) + (b3 - 0x80) = omega arith in
     let f : c / 64 / 64 ≡ 2 ^ 6 * (b1 - 0xF0) + (b2 - 0x80) = omega arith in
     let p : b1 ≡ 0xF0 + c / 64 / 64 / 64 = omega arith in
     let q : b2 ≡ 0x80 + c / 64 / 64 % 64 = omega arith in
     let r : b3 ≡ 0x80 + c / 64 % 64 = omega arith in
     let t : b4 ≡ 0x80 + c % 64 = omega arith in
-    (in-range c (inr (omega arith, k)), rw (le-ltb c 0x80 (omega arith), le-ltb c 0x800 (omega arith), le-ltb c 0x10000 h) (cc))
+    (in_range c (inr (omega arith, k)), rw (le-ltb c 0x80 (omega arith), le-ltb c 0x800 (omega arith), le-ltb c 0x10000 h) (cc))
 
 only : {c : ℕ} {s : List ℕ} → Encodes c s → Fixed c s
 only {c} (one_byte b h e) = only_one c b h e
 only {c} (two_bytes b1 b2 h k l m e) = only_two c b1 b2 h k l m e
-only {c} (three-bytes b1 b2 b3 (inl (h, k)) l m n e) = only-three c b1 b2 b3 h (omega arith) (inl k) l m n e
-only {c} (three-bytes b1 b2 b3 (inr (h, k)) l m n e) = only-three c b1 b2 b3 (omega arith) k (inr (h, omega arith)) l m n e
-only {c} (four_bytes b1 b2 b3 b4 h k l m n o e) = only-four c b1 b2 b3 b4 h k l m n o e
+only {c} (three_bytes b1 b2 b3 (inl (h, k)) l m n e) = only_three c b1 b2 b3 h (omega arith) (inl k) l m n e
+only {c} (three_bytes b1 b2 b3 (inr (h, k)) l m n e) = only_three c b1 b2 b3 (omega arith) k (inr (h, omega arith)) l m n e
+only {c} (four_bytes b1 b2 b3 b4 h k l m n o e) = only_four c b1 b2 b3 b4 h k l m n o e
 
 -- ---- and they solve them
 
@@ -83,11 +83,11 @@ unfolding utf8
 solves c e =
     let (p, q) = both_true (ltb c 0x110000) (not (surrogate c)) e in
     let top = ltb-true c 0x110000 p in
-    by-range c
+    by_range c
     (λ h. rw (lt-ltb c 0x80 h) (one_byte c h refl))
     (λ h k. rw (le-ltb c 0x80 h, lt-ltb c 0x800 k) (two_bytes (0xC0 + c / 64) (0x80 + c % 64) h k (omega arith) (cont c) (omega arith)))
     (λ h k l. rw (le-ltb c 0x80 h, le-ltb c 0x800 k, lt-ltb c 0x10000 l)
-    (three-bytes (0xE0 + c / 64 / 64) (0x80 + c / 64 % 64) (0x80 + c % 64) (outside k l q) (omega arith) (cont (c / 64)) (cont c) (omega arith)))
+    (three_bytes (0xE0 + c / 64 / 64) (0x80 + c / 64 % 64) (0x80 + c % 64) (outside k l q) (omega arith) (cont (c / 64)) (cont c) (omega arith)))
     (λ h k l. rw (le-ltb c 0x80 h, le-ltb c 0x800 k, le-ltb c 0x10000 l)
     (four_bytes (0xF0 + c / 64 / 64 / 64) (0x80 + c / 64 / 64 % 64) (0x80 + c / 64 % 64) (0x80 + c % 64) l top (omega arith) (cont (c / 64 / 64)) (cont (c / 64)) (cont c) (omega arith)))
   where
@@ -101,5 +101,5 @@ solves c e =
         never m l = true≢false (sym (rw (le-leb 0xD800 c m, lt-ltb c 0xE000 l) at n))
 
 -- utf8(ch) is defined exactly of the scalar values, and is the one solution there
-pub encodes-exactly : (c : ℕ) (s : List ℕ) → Encodes c s ↔ ((scalar c ≡ true) × (s ≡ utf8 c))
-encodes-exactly c s = (only, λ (h, e). rw e (solves c h))
+pub encodes_exactly : (c : ℕ) (s : List ℕ) → Encodes c s ↔ ((scalar c ≡ true) × (s ≡ utf8 c))
+encodes_exactly c s = (only, λ (h, e). rw e (solves c h))

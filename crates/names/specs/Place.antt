@@ -35,5 +35,5 @@ lowest b = cond (eqb b 0xE0) 0xA0 (cond (eqb b 0xF0) 0x90 0x80)
 abbrev pub past : ℕ → ℕ
 past b = cond (eqb b 0xED) 0xA0 (cond (eqb b 0xF4) 0x90 0xC0)
 
-unfoldable pub isSecond : ℕ → ℕ → Bool
-isSecond b c = between (lowest b) (past b) c
+unfoldable pub is_second : ℕ → ℕ → Bool
+is_second b c = between (lowest b) (past b) c

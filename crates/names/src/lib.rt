@@ -1,8 +1,8 @@
 // Names: whether bytes are UTF-8, in one pass over their characters.
 ghost use Rattle.std.specs.Prelude.{◌≡◌, ◌≤◌, length, get_or};
 ghost use Rattle.names.specs.Char.{two, three, four, wide};
-ghost use Rattle.names.specs.Name.{isName, NamedTo};
-ghost use Rattle.names.specs.Place.{EndsAt, Leading, between, TellsMore, isSecond};
+ghost use Rattle.names.specs.Name.{is_name, NamedTo};
+ghost use Rattle.names.specs.Place.{EndsAt, Leading, between, TellsMore, is_second};
 
 use plain::{eight_of, is_plain};
 
@@ -38,7 +38,7 @@ fn above(b: u8) -> u8
 
 // A second byte of three or four, behind the first.
 fn is_second(b: u8, c: u8) -> bool
-    ensures { result ≡ isSecond b c }
+    ensures { result ≡ is_second b c }
 {
     if b == 0xE0 {
         return is_between(0xA0, 0xC0, c);
@@ -136,7 +136,7 @@ fn eights_end(s: &[u8], at: usize) -> usize
 
 // One character after the other. Eights are tried behind a plain byte at each eighth place, so that no byte is looked at thrice.
 fn is_mixed_name(s: &[u8]) -> bool
-    ensures { result ≡ isName s.now }
+    ensures { result ≡ is_name s.now }
 {
     let mut at: usize = 0;
     while at < s.len() {
@@ -159,7 +159,7 @@ fn is_mixed_name(s: &[u8]) -> bool
 
 // Most names are plain, but for those that begin with a wide character.
 pub fn is_name(s: &[u8]) -> bool
-    ensures { result ≡ isName s.now }
+    ensures { result ≡ is_name s.now }
 {
     if byte(s, 0) < 0x80 {
         if is_plain(s) {

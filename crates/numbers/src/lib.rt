@@ -5,9 +5,9 @@ ghost use Rattle.format.specs.Count.{Appends};
 ghost use Rattle.format.specs.Read.{reading};
 ghost use Rattle.format.specs.Write.{Writes};
 ghost use Rattle.leb128.specs.Leb.{leb, uleb, sleb};
-ghost use Rattle.leb128.specs.Formats.{uN, sN, u32, u64, s32, s64, index};
+ghost use Rattle.leb128.specs.Formats.{u_n, s_n, u32, u64, s32, s64, index};
 ghost use Rattle.leb128.specs.Parts.{by_sign};
-ghost use Rattle.numbers.specs.Answers.{readU32, readU64, readI32, readI64};
+ghost use Rattle.numbers.specs.Answers.{read_u32, read_u64, read_i32, read_i64};
 
 use format::{Done, Written, count, grown, least};
 use leb128::Parts;
@@ -123,7 +123,7 @@ pub fn append_index(v: u32, out: &mut [u8], s: Done) -> Done
 // begins there (11). Most numbers without a sign take one byte.
 fn decode_unsigned(bits: u32, s: &[u8], at: usize) -> ReadU64
     requires { (7 ≤ bits) × (1 ≤ bits % 7) × (bits ≤ 64) }
-    ensures { readU64 result ≡ reading 0 s.now ((uN bits).parse (drop at s.now)) }
+    ensures { read_u64 result ≡ reading 0 s.now ((u_n bits).parse (drop at s.now)) }
 {
     if s.len() <= at {
         return ReadU64::Nothing;
@@ -139,7 +139,7 @@ fn decode_unsigned(bits: u32, s: &[u8], at: usize) -> ReadU64
 }
 
 pub fn decode_u32(s: &[u8], at: usize) -> ReadU32
-    ensures { readU32 result ≡ reading 0 s.now (u32.parse (drop at s.now)) }
+    ensures { read_u32 result ≡ reading 0 s.now (u32.parse (drop at s.now)) }
 {
     let ReadU64::Value(v, end) = decode_unsigned(32, s, at) else {
         return ReadU32::Nothing;
@@ -148,7 +148,7 @@ pub fn decode_u32(s: &[u8], at: usize) -> ReadU32
 }
 
 pub fn decode_u64(s: &[u8], at: usize) -> ReadU64
-    ensures { readU64 result ≡ reading 0 s.now (u64.parse (drop at s.now)) }
+    ensures { read_u64 result ≡ reading 0 s.now (u64.parse (drop at s.now)) }
 {
     decode_unsigned(64, s, at)
 }
@@ -163,7 +163,7 @@ fn number(neg: bool, a: u64) -> i64
 
 fn decode_signed(bits: u32, s: &[u8], at: usize) -> ReadI64
     requires { (1 ≤ bits % 7) × (bits ≤ 64) }
-    ensures { readI64 result ≡ reading (pos 0) s.now ((sN bits).parse (drop at s.now)) }
+    ensures { read_i64 result ≡ reading (pos 0) s.now ((s_n bits).parse (drop at s.now)) }
 {
     let Parts::Value(neg, a, end) = leb128::decode(true, bits, s, at) else {
         return ReadI64::Nothing;
@@ -172,7 +172,7 @@ fn decode_signed(bits: u32, s: &[u8], at: usize) -> ReadI64
 }
 
 pub fn decode_i32(s: &[u8], at: usize) -> ReadI32
-    ensures { readI32 result ≡ reading (pos 0) s.now (s32.parse (drop at s.now)) }
+    ensures { read_i32 result ≡ reading (pos 0) s.now (s32.parse (drop at s.now)) }
 {
     let ReadI64::Value(v, end) = decode_signed(32, s, at) else {
         return ReadI32::Nothing;
@@ -181,13 +181,13 @@ pub fn decode_i32(s: &[u8], at: usize) -> ReadI32
 }
 
 pub fn decode_i64(s: &[u8], at: usize) -> ReadI64
-    ensures { readI64 result ≡ reading (pos 0) s.now (s64.parse (drop at s.now)) }
+    ensures { read_i64 result ≡ reading (pos 0) s.now (s64.parse (drop at s.now)) }
 {
     decode_signed(64, s, at)
 }
 
 pub fn decode_index(s: &[u8], at: usize) -> ReadU32
-    ensures { readU32 result ≡ reading 0 s.now (index.parse (drop at s.now)) }
+    ensures { read_u32 result ≡ reading 0 s.now (index.parse (drop at s.now)) }
 {
     let Parts::Value(neg, a, end) = leb128::decode(true, 64, s, at) else {
         return ReadU32::Nothing;

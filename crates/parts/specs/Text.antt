@@ -6,15 +6,15 @@ use Rattle.format.specs.Parsed.{Parsed, fail, got}
 use Rattle.format.specs.Format.{Format}
 use Rattle.format.specs.Combine.{guard}
 use Rattle.format.specs.Sized.{sized}
-use Rattle.format.specs.Read.{read-on, begins}
+use Rattle.format.specs.Read.{read_on, begins}
 use Rattle.leb128.specs.Formats.{u32}
-use Rattle.names.specs.Name.{isName, name-exactly}
+use Rattle.names.specs.Name.{is_name, name_exactly}
 use Rattle.exprs.specs.Laws.{expr}
-use Rattle.texts.specs.Text.{Kind, named, constant, plain, slice_of, long-in}
+use Rattle.texts.specs.Text.{Kind, named, constant, plain, slice_of, long_in}
 use Rattle.texts.specs.Spans.{span}
-use Rattle.texts.specs.Place.{spanAt, sizedAt}
+use Rattle.texts.specs.Place.{span_at, sized_at}
 use Rattle.texts.specs.Allowed.{IsKind}
-use Rattle.texts.specs.Held.{Holds, held, sized-held, held-allowed}
+use Rattle.texts.specs.Held.{Holds, held, sized_held, held_allowed}
 use Rattle.texts.specs.Section.{Section}
 use Rattle.texts.specs.declared.Span.{Span}
 use Rattle.texts.specs.declared.TextAt.{TextAt}
@@ -36,35 +36,35 @@ module _ (k : Kind) (F : Format (List ℕ)) (place : ℕ → List ℕ → Span) 
         resolve = slice_of;
         locate = place;
         located = λ q r b ok. (H.holds q r b).slice;
-        locate-ok = λ q r b ok h. (let i = (H.holds q r b).within in (omega arith, omega arith));
-        locate-texts = λ q r b ok. (held-allowed k (H.holds q r b) (H.kind b ok), tt);
-        resolve-ok = λ t v ok h. H.ok (slice_of t v) h.0.kind (omega (arith, long-in t v h.0.within, ok.1));
-        same-words = λ t v n. refl;
+        locate_ok = λ q r b ok h. (let i = (H.holds q r b).within in (omega arith, omega arith));
+        locate_texts = λ q r b ok. (held_allowed k (H.holds q r b) (H.kind b ok), tt);
+        resolve_ok = λ t v ok h. H.ok (slice_of t v) h.0.kind (omega (arith, long_in t v h.0.within, ok.1));
+        same_words = λ t v n. refl;
       }
 
 -- a name: its length and its bytes, which are UTF-8
-abbrev pub nameBytes : Format (List ℕ)
-nameBytes = guard (sized u32) isName
+abbrev pub name_bytes : Format (List ℕ)
+name_bytes = guard (sized u32) is_name
 
-abbrev pub nameHolds : Holding named nameBytes sizedAt
-nameHolds = record { holds = λ q r b. sized-held q b r refl refl; kind = λ b ok. (name-exactly b).0 ok.1; ok = λ b i h. (h, (name-exactly b).1 i) }
+abbrev pub name_holds : Holding named name_bytes sized_at
+name_holds = record { holds = λ q r b. sized_held q b r refl refl; kind = λ b ok. (name_exactly b).0 ok.1; ok = λ b i h. (h, (name_exactly b).1 i) }
 
 abbrev pub name : Section Span (List ℕ)
-name = text named nameBytes sizedAt nameHolds
+name = text named name_bytes sized_at name_holds
 
 -- an expression: its bytes, which end in 0B
-abbrev pub exprHolds : Holding constant expr spanAt
-exprHolds = record { holds = λ q r b. held q b r refl refl; kind = λ b ok. ok; ok = λ b i h. i }
+abbrev pub expr_holds : Holding constant expr span_at
+expr_holds = record { holds = λ q r b. held q b r refl refl; kind = λ b ok. ok; ok = λ b i h. i }
 
 abbrev pub expression : Section Span (List ℕ)
-expression = text constant expr spanAt exprHolds
+expression = text constant expr span_at expr_holds
 
 -- data: its length and its bytes, which are any
-abbrev pub plainHolds : Holding plain (sized u32) sizedAt
-plainHolds = record { holds = λ q r b. sized-held q b r refl refl; kind = λ b ok. tt; ok = λ b i h. h }
+abbrev pub plain_holds : Holding plain (sized u32) sized_at
+plain_holds = record { holds = λ q r b. sized_held q b r refl refl; kind = λ b ok. tt; ok = λ b i h. h }
 
 abbrev pub content : Section Span (List ℕ)
-content = text plain (sized u32) sizedAt plainHolds
+content = text plain (sized u32) sized_at plain_holds
 
 -- a span that was read of words, as an answer
 abbrev pub span_of : Parsed Span → TextAt
@@ -72,20 +72,20 @@ span_of fail = No
 span_of (got v r) = At v
 
 module _ (w : List ℕ) (at : ℕ) where
-  pub span-not : span_of (span.parse (drop at w)) ≡ No → span.parse (drop at w) ≡ fail
-  span-not e = go (span.parse (drop at w)) e
+  pub span_not : span_of (span.parse (drop at w)) ≡ No → span.parse (drop at w) ≡ fail
+  span_not e = go (span.parse (drop at w)) e
     where
       go : (m : Parsed Span) → span_of m ≡ No → m ≡ fail
       go fail q = refl
       go (got v r) q = let z : ◌≡◌ {A = ℕ} 0 1 = cc in absurd (omega arith)
 
   -- it takes two words
-  pub span-is : (v : Span) → span_of (span.parse (drop at w)) ≡ At v → (span.parse (drop at w) ≡ got v (drop (at + 2) w)) × (at + 2 ≤ length w)
-  span-is v e = go (span.parse (drop at w)) refl e
+  pub span_is : (v : Span) → span_of (span.parse (drop at w)) ≡ At v → (span.parse (drop at w) ≡ got v (drop (at + 2) w)) × (at + 2 ≤ length w)
+  span_is v e = go (span.parse (drop at w)) refl e
     where
       go : (m : Parsed Span) → span.parse (drop at w) ≡ m → span_of m ≡ At v → (span.parse (drop at w) ≡ got v (drop (at + 2) w)) × (at + 2 ≤ length w)
       go fail p q = let z : ◌≡◌ {A = ℕ} 0 1 = cc in absurd (omega arith)
       go (got u r) p q =
           let u' : u ≡ v = cc in
-          let on = read-on span w at u r (begins span w at u r (omega arith) p) p in
+          let on = read_on span w at u r (begins span w at u r (omega arith) p) p in
           (on.0 ∙ ap (λ (x : Span). got x (drop (at + 2) w)) u', on.1)

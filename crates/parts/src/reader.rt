@@ -1,8 +1,8 @@
 // Reading texts: what begins at a place of some bytes, and its span.
 ghost use Rattle.std.specs.Prelude.{◌≡◌, ◌≤◌, length, drop};
-ghost use Rattle.texts.specs.Judge.{textMost};
-ghost use Rattle.texts.specs.Place.{sizedAt, textAt};
-ghost use Rattle.parts.specs.Text.{name, nameBytes, expression, content};
+ghost use Rattle.texts.specs.Judge.{text_most};
+ghost use Rattle.texts.specs.Place.{sized_at, text_at};
+ghost use Rattle.parts.specs.Text.{name, name_bytes, expression, content};
 ghost use Rattle.parts.specs.Reading.{Reading, FoundReads};
 
 use format::{Done, Walk};
@@ -10,8 +10,8 @@ use texts::{TextAt, append_span, find_data, find_expr};
 
 // Where a name stands: data that is UTF-8.
 pub fn find_name(b: &[u8], at: usize) -> TextAt
-    requires { length b.now ≤ textMost }
-    ensures { result ≡ textAt (sizedAt at) (nameBytes.parse (drop at b.now)) }
+    requires { length b.now ≤ text_most }
+    ensures { result ≡ text_at (sized_at at) (name_bytes.parse (drop at b.now)) }
 {
     let TextAt::At(v) = find_data(b, at) else {
         return TextAt::No;
@@ -35,21 +35,21 @@ fn append_found(found: TextAt, out: &mut [u32], s: Done) -> Walk
 }
 
 pub fn read_name(b: &[u8], at: usize, out: &mut [u32], s: Done) -> Walk
-    requires { length b.now ≤ textMost }
+    requires { length b.now ≤ text_most }
     ensures { Reading name b.now at out.old s out.new result }
 {
     append_found(find_name(b, at), out, s)
 }
 
 pub fn read_expr(b: &[u8], at: usize, out: &mut [u32], s: Done) -> Walk
-    requires { length b.now ≤ textMost }
+    requires { length b.now ≤ text_most }
     ensures { Reading expression b.now at out.old s out.new result }
 {
     append_found(find_expr(b, at), out, s)
 }
 
 pub fn read_data(b: &[u8], at: usize, out: &mut [u32], s: Done) -> Walk
-    requires { length b.now ≤ textMost }
+    requires { length b.now ≤ text_most }
     ensures { Reading content b.now at out.old s out.new result }
 {
     append_found(find_data(b, at), out, s)

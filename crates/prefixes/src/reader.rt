@@ -6,10 +6,10 @@ ghost use Rattle.format.specs.Leads.{LeadWalks, mark, option};
 ghost use Rattle.format.specs.Count.{silent};
 ghost use Rattle.format.specs.Walk.{Walks};
 ghost use Rattle.leb128.specs.Formats.{u32, index};
-ghost use Rattle.lists.specs.Member.{listWords};
+ghost use Rattle.lists.specs.Member.{list_words};
 ghost use Rattle.lists.specs.declared.Member.TheVariants.{Index};
 ghost use Rattle.words.specs.Words.{word};
-ghost use Rattle.prefixes.specs.Prefix.{supersWords, supersLead, someSupers};
+ghost use Rattle.prefixes.specs.Prefix.{supers_words, supers_lead, some_supers};
 
 use format::{Done, Walk, append_word};
 use lists::{Member, read_list};
@@ -44,7 +44,7 @@ pub fn read_shared(b: &[u8], at: usize, out: &mut [u32], s: Done) -> Walk
 
 // Supertypes of a final type: an empty list would have no prefix.
 fn read_some(b: &[u8], at: usize, out: &mut [u32], s: Done) -> Walk
-    ensures { Walks someSupers (λ xs. 1 ∷ (listWords Index).print xs) silent b.now at out.old s out.new result }
+    ensures { Walks some_supers (λ xs. 1 ∷ (list_words Index).print xs) silent b.now at out.old s out.new result }
 {
     if b.len() <= at {
         return Walk::No;
@@ -57,7 +57,7 @@ fn read_some(b: &[u8], at: usize, out: &mut [u32], s: Done) -> Walk
 }
 
 pub fn read_supers(b: &[u8], at: usize, out: &mut [u32], s: Done) -> Walk
-    ensures { LeadWalks supersLead supersWords.print b.now at out.old s out.new result }
+    ensures { LeadWalks supers_lead supers_words.print b.now at out.old s out.new result }
 {
     if b.len() <= at {
         return Walk::No;

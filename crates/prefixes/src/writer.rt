@@ -6,7 +6,7 @@ ghost use Rattle.format.specs.Count.{silent};
 ghost use Rattle.format.specs.Walk.{Walks};
 ghost use Rattle.leb128.specs.Formats.{u32};
 ghost use Rattle.words.specs.Words.{word};
-ghost use Rattle.prefixes.specs.Prefix.{supersWords, supersLead};
+ghost use Rattle.prefixes.specs.Prefix.{supers_words, supers_lead};
 
 use format::{Done, Walk, append_byte};
 use lists::{Member, walk_list};
@@ -54,7 +54,7 @@ pub fn walk_shared(words: &[u32], at: usize, out: &mut [u8], s: Done) -> Walk
 
 // Final without supertypes has no prefix.
 pub fn walk_supers(words: &[u32], at: usize, out: &mut [u8], s: Done) -> Walk
-    ensures { Walks supersWords supersLead.print silent words.now at out.old s out.new result }
+    ensures { Walks supers_words supers_lead.print silent words.now at out.old s out.new result }
 {
     if words.len() <= at {
         return Walk::No;

@@ -4,9 +4,9 @@ ghost use Rattle.format.specs.Basic.{bit as bit_of};
 ghost use Rattle.format.specs.Count.{Appends, silent};
 ghost use Rattle.format.specs.Parsed.{map};
 ghost use Rattle.format.specs.Walk.{Walks};
-ghost use Rattle.types.specs.Words.{refTo, refWords};
-ghost use Rattle.types.specs.Bytes.{absOf, absBytes, idxFrom, idxBytes, heapBytes, refBytes};
-ghost use Rattle.types.specs.Answers.{heap_at, ref_at, refPlaced};
+ghost use Rattle.types.specs.Words.{ref_to, ref_words};
+ghost use Rattle.types.specs.Bytes.{abs_of, abs_bytes, idx_from, idx_bytes, heap_bytes, ref_bytes};
+ghost use Rattle.types.specs.Answers.{heap_at, ref_at, ref_placed};
 
 use format::{Done, Walk, append_words};
 use numbers::ReadU32;
@@ -14,7 +14,7 @@ use types::{AbstractHeapType, AbstractRead, HeapAt, HeapType, RefAt, RefType};
 
 // An abstract heap type: 65 says that it is shared.
 fn find_abstract(b: &[u8], at: usize) -> HeapAt
-    ensures { result ≡ heap_at b.now (map absOf (absBytes.parse (drop at b.now))) }
+    ensures { result ≡ heap_at b.now (map abs_of (abs_bytes.parse (drop at b.now))) }
 {
     if b.len() <= at {
         return HeapAt::No;
@@ -49,7 +49,7 @@ fn find_abstract(b: &[u8], at: usize) -> HeapAt
 
 // An index: 62 says that it is exact.
 fn find_index(b: &[u8], at: usize) -> HeapAt
-    ensures { result ≡ heap_at b.now (map idxFrom (idxBytes.parse (drop at b.now))) }
+    ensures { result ≡ heap_at b.now (map idx_from (idx_bytes.parse (drop at b.now))) }
 {
     if b.len() <= at {
         return HeapAt::No;
@@ -68,7 +68,7 @@ fn find_index(b: &[u8], at: usize) -> HeapAt
 
 // No concrete index begins with 40 to 7F.
 fn find_heap(b: &[u8], at: usize) -> HeapAt
-    ensures { result ≡ heap_at b.now (heapBytes.parse (drop at b.now)) }
+    ensures { result ≡ heap_at b.now (heap_bytes.parse (drop at b.now)) }
 {
     if b.len() <= at {
         return HeapAt::No;
@@ -85,7 +85,7 @@ fn find_heap(b: &[u8], at: usize) -> HeapAt
 
 // What is found as a reference to it.
 fn placed(nullable: bool, found: HeapAt) -> RefAt
-    ensures { result ≡ refPlaced nullable found }
+    ensures { result ≡ ref_placed nullable found }
 {
     match found {
         HeapAt::Is(t, p) => RefAt::Is(
@@ -101,7 +101,7 @@ fn placed(nullable: bool, found: HeapAt) -> RefAt
 
 // 64 and a heap type; 63 and an index; an abstract heap type.
 fn find_ref(b: &[u8], at: usize) -> RefAt
-    ensures { result ≡ ref_at b.now (refBytes.parse (drop at b.now)) }
+    ensures { result ≡ ref_at b.now (ref_bytes.parse (drop at b.now)) }
 {
     if b.len() <= at {
         return RefAt::No;
@@ -124,7 +124,7 @@ fn bit(f: bool) -> u32
 
 // Word h of a record: the kind, bit 4 nullable, bit 5 shared.
 pub fn head(r: RefType) -> u32
-    ensures { result ≡ (refTo r).0 }
+    ensures { result ≡ (ref_to r).0 }
 {
     let heap = r.heap_type;
     heap.kind() + 16 * bit(r.nullable) + 32 * bit(heap.is_shared())
@@ -132,7 +132,7 @@ pub fn head(r: RefType) -> u32
 
 // Words h and x.
 pub fn append_ref_words(r: RefType, out: &mut [u32], s: Done) -> Done
-    ensures { Appends (refWords.print r) out.old s out.new result }
+    ensures { Appends (ref_words.print r) out.old s out.new result }
 {
     let heap = r.heap_type;
     append_words(&[head(r), heap.index()], out, s)
@@ -140,7 +140,7 @@ pub fn append_ref_words(r: RefType, out: &mut [u32], s: Done) -> Done
 
 // Reads the reference at a place and appends its two words.
 pub fn read_ref(b: &[u8], at: usize, out: &mut [u32], s: Done) -> Walk
-    ensures { Walks refBytes refWords.print silent b.now at out.old s out.new result }
+    ensures { Walks ref_bytes ref_words.print silent b.now at out.old s out.new result }
 {
     let RefAt::Is(r, p) = find_ref(b, at) else {
         return Walk::No;

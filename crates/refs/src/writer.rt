@@ -1,15 +1,15 @@
 // Writing references: their words at a place, and their bytes.
 ghost use Rattle.format.specs.Count.{Appends, silent};
 ghost use Rattle.format.specs.Walk.{Walks};
-ghost use Rattle.types.specs.Words.{refWords};
-ghost use Rattle.types.specs.Bytes.{heapBytes, refBytes};
+ghost use Rattle.types.specs.Words.{ref_words};
+ghost use Rattle.types.specs.Bytes.{heap_bytes, ref_bytes};
 
 use format::{Done, Walk, append_byte};
 use numbers::{append_index, append_u32};
 use types::{HeapType, RefRead, RefType};
 
 fn append_heap(t: HeapType, out: &mut [u8], s: Done) -> Done
-    ensures { Appends (heapBytes.print t) out.old s out.new result }
+    ensures { Appends (heap_bytes.print t) out.old s out.new result }
 {
     match t {
         HeapType::Abstract { shared, ty } => {
@@ -29,7 +29,7 @@ fn append_heap(t: HeapType, out: &mut [u8], s: Done) -> Done
 
 // Only an abstract heap type stands alone, and only where it is nullable.
 pub fn append_ref(r: RefType, out: &mut [u8], s: Done) -> Done
-    ensures { Appends (refBytes.print r) out.old s out.new result }
+    ensures { Appends (ref_bytes.print r) out.old s out.new result }
 {
     let heap = r.heap_type;
     if r.nullable {
@@ -45,7 +45,7 @@ pub fn append_ref(r: RefType, out: &mut [u8], s: Done) -> Done
 
 // Reads a reference's two words and appends its bytes.
 pub fn walk_ref(words: &[u32], at: usize, out: &mut [u8], s: Done) -> Walk
-    ensures { Walks refWords refBytes.print silent words.now at out.old s out.new result }
+    ensures { Walks ref_words ref_bytes.print silent words.now at out.old s out.new result }
 {
     if words.len() <= at {
         return Walk::No;

@@ -11,10 +11,10 @@ use Rattle.bytes.specs.Bytes.{slice, index_of}
 use Rattle.format.specs.Write.{fits_or}
 use Rattle.replies.specs.Input.{Kept, more, hears}
 use Rattle.replies.specs.Run.{longest, Ready, Shows, Gathered, Ends, Takes}
-use Rattle.replies.specs.Keeping.{Keeps, all-kept, still_kept}
+use Rattle.replies.specs.Keeping.{Keeps, all_kept, still_kept}
 use Rattle.replies.specs.declared.Run.{Run}
-use Rattle.replies.proofs.Hearing.{part-heard, line-heard}
-use Rattle.replies.proofs.Showing.{shows-part}
+use Rattle.replies.proofs.Hearing.{part_heard, line_heard}
+use Rattle.replies.proofs.Showing.{shows_part}
 
 -- i characters of the piece are heard, and before the first line's end nothing is said
 pub record Taking (piece : List ℕ) (r : Run) (line store buffer out : List ℕ) (s : Run) (line' store' buffer' out' : List ℕ) (i : ℕ) : Type 0 where
@@ -25,26 +25,26 @@ pub record Taking (piece : List ℕ) (r : Run) (line store buffer out : List ℕ
   pub still : i ≡ 0 → s.at ≡ r.at
   pub shows : (k : Kept) → Shows k r line store buffer out → Shows (hears k (take i piece)) s line' store' buffer' out'
 
-pub none-taken : {piece : List ℕ} {r : Run} {line store buffer out : List ℕ} → Ready r line store buffer out → length piece < 2 ^ 64
+pub none_taken : {piece : List ℕ} {r : Run} {line store buffer out : List ℕ} → Ready r line store buffer out → length piece < 2 ^ 64
     → Taking piece r line store buffer out r line store buffer out 0
-none-taken h l = record { ready = h; keeps = all-kept; within = omega arith; lent = l; still = λ z. refl; shows = λ k w. w }
+none_taken h l = record { ready = h; keeps = all_kept; within = omega arith; lent = l; still = λ z. refl; shows = λ k w. w }
 
 module _ {piece : List ℕ} {r : Run} {line store buffer out : List ℕ} {s : Run} {line' store' buffer' out' : List ℕ} {i : ℕ}
     (t : Taking piece r line store buffer out s line' store' buffer' out' i) where
-  pub all-taken : length piece ≤ i → Takes piece r line store buffer out s i line' store' buffer' out'
-  all-taken h = record { ready = t.ready; within = t.within; some = λ z k. omega arith; shows = t.shows }
+  pub all_taken : length piece ≤ i → Takes piece r line store buffer out s i line' store' buffer' out'
+  all_taken h = record { ready = t.ready; within = t.within; some = λ z k. omega arith; shows = t.shows }
 
   module _ {end : ℕ} (e : end ≡ i + index_of 0x0A (slice i (length piece) piece)) where
     -- there is a next character, and fewer are left
     pub next_fits : end < length piece → Fits w64 (end + 1)
     next_fits h = record { fits = omega arith }
 
-    pub fewer-left : end < length piece → length piece - (end + 1) < length piece - i
-    fewer-left h = omega arith
+    pub fewer_left : end < length piece → length piece - (end + 1) < length piece - i
+    fewer_left h = omega arith
 
     module _ {u : Run} {line'' : List ℕ} (g : Gathered s (take (end - i) (drop i piece)) line' line'' u) (l : length line'' ≡ length line') where
-      pub part-ready : Ready u line'' store' buffer' out'
-      part-ready =
+      pub part_ready : Ready u line'' store' buffer' out'
+      part_ready =
           record {
             gathered = g.gathered;
             waiting = omega (arith, g.waiting, t.ready.waiting);
@@ -55,25 +55,25 @@ module _ {piece : List ℕ} {r : Run} {line store buffer out : List ℕ} {s : Ru
           }
 
       shows : (k : Kept) → Shows k r line store buffer out → Shows (more (hears k (take i piece)) (take (end - i) (drop i piece))) u line'' store' buffer' out'
-      shows k w = shows-part _ s u _ line' line'' store' buffer' out' t.ready.lined (t.shows k w) g
+      shows k w = shows_part _ s u _ line' line'' store' buffer' out' t.ready.lined (t.shows k w) g
 
       heard : (k : Kept) → Shows k r line store buffer out → Shows (hears k (take end piece)) u line'' store' buffer' out'
-      heard k w = subst (λ (m : Kept). Shows m u line'' store' buffer' out') (sym (part-heard k piece i end e)) (shows k w)
+      heard k w = subst (λ (m : Kept). Shows m u line'' store' buffer' out') (sym (part_heard k piece i end e)) (shows k w)
 
       -- the piece ends before its last line does
-      pub part-taken : end ≤ length piece → length piece ≤ end → Takes piece r line store buffer out u end line'' store' buffer' out'
-      part-taken f h = record { ready = part-ready; within = f; some = λ z k. omega arith; shows = heard }
+      pub part_taken : end ≤ length piece → length piece ≤ end → Takes piece r line store buffer out u end line'' store' buffer' out'
+      part_taken f h = record { ready = part_ready; within = f; some = λ z k. omega arith; shows = heard }
 
       -- there might be no room for the line's answer
-      pub part-waits : end < length piece → length out' - u.at < longest → Takes piece r line store buffer out u end line'' store' buffer' out'
-      part-waits f h =
-          record { ready = part-ready; within = omega arith; some = λ z k. ⊎_elim (λ (j : 1 ≤ end). j) (λ (j : end < 1). absurd (none j z)) (fits_or 1 end); shows = heard }
+      pub part_waits : end < length piece → length out' - u.at < longest → Takes piece r line store buffer out u end line'' store' buffer' out'
+      part_waits f h =
+          record { ready = part_ready; within = omega arith; some = λ z k. ⊎_elim (λ (j : 1 ≤ end). j) (λ (j : end < 1). absurd (none j z)) (fits_or 1 end); shows = heard }
         where
           none : end < 1 → r.at ≡ 0 → ⊥
           none j z = let q : i ≡ 0 = omega arith in omega (arith, t.still q, g.waiting, t.ready.room)
 
-      pub line-room : longest ≤ length out' - u.at → u.at + longest ≤ length out'
-      line-room h = omega (arith, h)
+      pub line_room : longest ≤ length out' - u.at → u.at + longest ≤ length out'
+      line_room h = omega (arith, h)
 
       pub line_taken : {v : Run} {store'' buffer'' out'' : List ℕ} → end < length piece → Ends u line'' store' buffer' out' v store'' buffer'' out''
           → length store'' ≡ length store' → length buffer'' ≡ length buffer' → length out'' ≡ length out'
@@ -85,5 +85,5 @@ module _ {piece : List ℕ} {r : Run} {line store buffer out : List ℕ} {s : Ru
             within = omega arith;
             lent = t.lent;
             still = λ z. absurd (omega arith);
-            shows = λ k w. subst (λ (m : Kept). Shows m v line'' store'' buffer'' out'') (sym (line-heard k piece i end e h)) (d.shows _ (shows k w));
+            shows = λ k w. subst (λ (m : Kept). Shows m v line'' store'' buffer'' out'') (sym (line_heard k piece i end e h)) (d.shows _ (shows k w));
           }

@@ -8,8 +8,8 @@ pub record Keeps (line₀ store₀ buffer₀ out₀ line₁ store₁ buffer₁ o
   pub buffer : length buffer₁ ≡ length buffer₀
   pub out : length out₁ ≡ length out₀
 
-pub all-kept : {line store buffer out : List ℕ} → Keeps line store buffer out line store buffer out
-all-kept = record { line = refl; store = refl; buffer = refl; out = refl }
+pub all_kept : {line store buffer out : List ℕ} → Keeps line store buffer out line store buffer out
+all_kept = record { line = refl; store = refl; buffer = refl; out = refl }
 
 -- and what a call in its body leaves of them
 module _ {line₀ store₀ buffer₀ out₀ line₁ store₁ buffer₁ out₁ : List ℕ} (k : Keeps line₀ store₀ buffer₀ out₀ line₁ store₁ buffer₁ out₁) where
@@ -19,12 +19,12 @@ module _ {line₀ store₀ buffer₀ out₀ line₁ store₁ buffer₁ out₁ : 
   pub store_kept : (l : List ℕ) → length l ≡ length store₁ → length l ≡ length store₀
   store_kept l e = e ∙ k.store
 
-  pub buffer-kept : (l : List ℕ) → length l ≡ length buffer₁ → length l ≡ length buffer₀
-  buffer-kept l e = e ∙ k.buffer
+  pub buffer_kept : (l : List ℕ) → length l ≡ length buffer₁ → length l ≡ length buffer₀
+  buffer_kept l e = e ∙ k.buffer
 
-  pub out-kept : (l : List ℕ) → length l ≡ length out₁ → length l ≡ length out₀
-  out-kept l e = e ∙ k.out
+  pub out_kept : (l : List ℕ) → length l ≡ length out₁ → length l ≡ length out₀
+  out_kept l e = e ∙ k.out
 
   pub still_kept : (line store buffer out : List ℕ) → length line ≡ length line₁ → length store ≡ length store₁ → length buffer ≡ length buffer₁ → length out ≡ length out₁
       → Keeps line₀ store₀ buffer₀ out₀ line store buffer out
-  still_kept line store buffer out l s b o = record { line = line_kept line l; store = store_kept store s; buffer = buffer-kept buffer b; out = out-kept out o }
+  still_kept line store buffer out l s b o = record { line = line_kept line l; store = store_kept store s; buffer = buffer_kept buffer b; out = out_kept out o }

@@ -1,28 +1,28 @@
 -- What the program's memory holds of its input and of its answers. Assumes nothing.
 use Rattle.std.specs.Prelude.{◌≡◌, Bool, true, List, ◌++◌, ℕ, ◌+◌, ◌*◌, ◌≤◌, ◌<◌, length, take, drop, set}
 use Rattle.lines.specs.Answer.{Outcome, answering}
-use Rattle.replies.specs.Input.{Kept, ended, hears, closed, keptMost}
+use Rattle.replies.specs.Input.{Kept, ended, hears, closed, kept_most}
 use Rattle.replies.specs.Handing.{quiet}
 use Rattle.replies.specs.declared.Run.{Run}
 
 -- document 01, Hex lines: "Store and output are 32,768 bytes"
-abbrev pub storeLong : ℕ
-storeLong = 32768
+abbrev pub store_long : ℕ
+store_long = 32768
 
-abbrev pub bufferLong : ℕ
-bufferLong = 32768
+abbrev pub buffer_long : ℕ
+buffer_long = 32768
 
 -- the longest answer: two digits, those of a module that fills its buffer, and the line feed
 abbrev pub longest : ℕ
-longest = 3 + 2 * bufferLong
+longest = 3 + 2 * buffer_long
 
 -- what is gathered and what waits stand in their buffers, and there is room for any answer
 pub record Ready (r : Run) (line store buffer out : List ℕ) : Type 0 where
   pub gathered : r.n ≤ length line
   pub waiting : r.at ≤ length out
-  pub lined : length line ≡ keptMost
-  pub stored : length store ≡ storeLong
-  pub buffered : length buffer ≡ bufferLong
+  pub lined : length line ≡ kept_most
+  pub stored : length store ≡ store_long
+  pub buffered : length buffer ≡ buffer_long
   pub room : longest ≤ length out
 
 -- the memory shows what is kept: the front of the line, and all that was said since what was said was handed on
@@ -30,7 +30,7 @@ pub record Shows (k : Kept) (r : Run) (line store buffer out : List ℕ) : Type 
   pub state : r.state ≡ k.state
   pub stored : store ≡ k.store
   pub built : buffer ≡ k.buffer
-  pub front : take r.n line ≡ take keptMost k.line
+  pub front : take r.n line ≡ take kept_most k.line
   pub waits : take r.at out ≡ k.said
 
 -- a part of a line stands behind what was gathered, as far as there is room
@@ -41,8 +41,8 @@ pub record Gathered (r : Run) (part line line' : List ℕ) (s : Run) : Type 0 wh
   pub front : take s.n line' ≡ take (length line) (take r.n line ++ part)
 
 -- the line's answer, into what is free of the output
-abbrev pub answerTo : Run → List ℕ → List ℕ → List ℕ → List ℕ → Outcome
-answerTo r line store buffer out = answering r.state store buffer (drop r.at out) line
+abbrev pub answer_to : Run → List ℕ → List ℕ → List ℕ → List ℕ → Outcome
+answer_to r line store buffer out = answering r.state store buffer (drop r.at out) line
 
 -- the answer o and its line feed stand behind what waits, and wait too
 pub record Replied (r : Run) (o : Outcome) (out : List ℕ) (s : Run) (store' buffer' out' : List ℕ) : Type 0 where

@@ -1,6 +1,6 @@
 // A line's answer and its line feed, behind the answers that wait to be written.
 ghost use Rattle.std.specs.Prelude.{◌+◌, ◌*◌, ◌≤◌, length};
-ghost use Rattle.replies.specs.Run.{longest, Ready, answerTo, Replied, Ends};
+ghost use Rattle.replies.specs.Run.{longest, Ready, answer_to, Replied, Ends};
 
 use crate::Run;
 use lines::answer;
@@ -8,7 +8,7 @@ use thriftbell::Written;
 
 fn reply(line: &[u8], r: Run, store: &mut [u8], buffer: &mut [u8], out: &mut [u8]) -> Run
     requires { r.at + (3 + 2 * length buffer.old) ≤ length out.old }
-    ensures { Replied r (answerTo r line.now store.old buffer.old out.old) out.old result store.new buffer.new out.new }
+    ensures { Replied r (answer_to r line.now store.old buffer.old out.old) out.old result store.new buffer.new out.new }
 {
     let at = r.at;
     let state = r.state;

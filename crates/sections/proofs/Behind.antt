@@ -7,20 +7,20 @@ use mir.Syntax.{w64}
 use mir.Val.{Fits}
 use lib.ListN.{length, length-drop}
 use borrow.Rule.Slice.PartMut.{put_mid, mid_of}
-use Rattle.format.specs.Write.{Writes, Room, writes_then, within, same-long, rest-lent}
+use Rattle.format.specs.Write.{Writes, Room, writes_then, within, same_long, rest_lent}
 use Rattle.format.specs.declared.Written.TheVariants.{Length}
 
-pub room-long : {b ys : List ℕ} {n : ℕ} → Room b ys n → n + length b ≤ length ys
-room-long {ys = ys} {n = n} r = omega (arith, r.start, r.room, ap length (rest-lent n ys), length-drop n ys)
+pub room_long : {b ys : List ℕ} {n : ℕ} → Room b ys n → n + length b ≤ length ys
+room_long {ys = ys} {n = n} r = omega (arith, r.start, r.room, ap length (rest_lent n ys), length-drop n ys)
 
 module _ {a xs ys : List ℕ} {n : ℕ} (w : Writes a xs ys (Length n)) where
-  pub behind-starts : n ≤ length ys
-  behind-starts = omega (arith, within w, same-long w)
+  pub behind_starts : n ≤ length ys
+  behind_starts = omega (arith, within w, same_long w)
 
   module _ {b zs : List ℕ} {m : ℕ} (v : Writes b (mid_of n (length ys - n) ys) zs (Length m)) where
     -- the sum as the code has it is k: it is held against n + m only once both are found
-    pub behind-fits : {k : ℕ} → n + m ≡ k → length xs < 2 ^ 64 → Fits w64 k
-    behind-fits e h = record { fits = omega (arith, within (writes_then w v)) }
+    pub behind_fits : {k : ℕ} → n + m ≡ k → length xs < 2 ^ 64 → Fits w64 k
+    behind_fits e h = record { fits = omega (arith, within (writes_then w v)) }
 
-    pub behind-long : length (put_mid n (length ys - n) ys zs) ≡ length xs
-    behind-long = same-long (writes_then w v)
+    pub behind_long : length (put_mid n (length ys - n) ys zs) ≡ length xs
+    behind_long = same_long (writes_then w v)

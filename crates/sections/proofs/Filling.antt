@@ -13,52 +13,52 @@ use lib.Seq.{drop_at, get_or-set_same, get_or-set_other}
 use borrow.Rule.Slice.PartMut.{put_mid, mid_of}
 use Rattle.format.specs.Lists.{All, prints}
 use Rattle.format.specs.Runs.{run}
-use Rattle.format.specs.Write.{Writes, Room, writes, writes_as, told-length, same-long}
+use Rattle.format.specs.Write.{Writes, Room, writes, writes_as, told_length, same_long}
 use Rattle.format.specs.declared.Written.{Written}
 use Rattle.format.specs.declared.Written.TheVariants.{Length}
-use Rattle.frames.specs.Frames.{Frame, frame, framesOf, held, noFrames}
+use Rattle.frames.specs.Frames.{Frame, frame, frames_of, held, no_frames}
 use Rattle.frames.specs.Place.{frame_at}
-use Rattle.frames.specs.Tally.{items_of, joined, itemBytes, tally_of, total-at}
+use Rattle.frames.specs.Tally.{items_of, joined, item_bytes, tally_of, total_at}
 use Rattle.frames.specs.declared.Tallies.{Tallies}
 use Rattle.frames.specs.declared.FrameAt.{FrameAt}
 use Rattle.frames.specs.declared.FrameAt.TheVariants.{Is, No}
 use Rattle.frames.proofs.Placing.{Begins}
-use Rattle.frames.proofs.Walking.{Walked, walk_none, walk_more, walk-stop, walk-done, items-other}
+use Rattle.frames.proofs.Walking.{Walked, walk_none, walk_more, walk_stop, walk_done, items_other}
 use Rattle.sections.specs.declared.Given.{Given}
-use Rattle.sections.specs.Section.{sectionOf}
-use Rattle.sections.specs.Order.{orderIds, allAmong, Away, Once}
-use Rattle.sections.specs.Laid.{Plan, plan_of, roomOf, Laid, Headed}
-use Rattle.sections.proofs.Lengths.{section-parts}
-use Rattle.sections.proofs.Copying.{some_of, items-bounded, joined-one}
-use Rattle.frames.proofs.Finding.{frame-begins, begins-below}
-use Rattle.sections.proofs.Behind.{room-long}
-use Rattle.sections.proofs.Listed.{listed-all, section-is}
-use Rattle.sections.proofs.Laying.{Spot, seek, laid-other, laid-all, within-room, within-put, writes_again}
+use Rattle.sections.specs.Section.{section_of}
+use Rattle.sections.specs.Order.{order_ids, all_among, Away, Once}
+use Rattle.sections.specs.Laid.{Plan, plan_of, room_of, Laid, Headed}
+use Rattle.sections.proofs.Lengths.{section_parts}
+use Rattle.sections.proofs.Copying.{some_of, items_bounded, joined_one}
+use Rattle.frames.proofs.Finding.{frame_begins, begins_below}
+use Rattle.sections.proofs.Behind.{room_long}
+use Rattle.sections.proofs.Listed.{listed_all, section_is}
+use Rattle.sections.proofs.Laying.{Spot, seek, laid_other, laid_all, within_room, within_put, writes_again}
 
 -- ---- the plan of the frames that bytes are
 
-abbrev pub planIn : List ℕ → Given → Plan
-planIn s given = plan_of (tally_of (run frame s)).counts (tally_of (run frame s)).totals given
+abbrev pub plan_in : List ℕ → Given → Plan
+plan_in s given = plan_of (tally_of (run frame s)).counts (tally_of (run frame s)).totals given
 
 module _ (s : List ℕ) (given : Given) where
   -- what it says of a section
   abbrev Planned : ℕ → Type 0
-  Planned i = ((planIn s given).total i ≡ length (itemBytes i s)) × ((planIn s given).head i ++ itemBytes i s ≡ sectionOf given (framesOf s) i)
+  Planned i = ((plan_in s given).total i ≡ length (item_bytes i s)) × ((plan_in s given).head i ++ item_bytes i s ≡ section_of given (frames_of s) i)
 
   planned : (i : ℕ) → i < 16 → Planned i
   planned i h =
-      let e = total-at s i h in
-      (e, sym (section-parts i _ (itemBytes i s) ((planIn s given).total i) e) ∙ section-is s i h refl given refl)
+      let e = total_at s i h in
+      (e, sym (section_parts i _ (item_bytes i s) ((plan_in s given).total i) e) ∙ section_is s i h refl given refl)
 
-  planned-long : (order : List ℕ) → All Planned order → roomOf (planIn s given) order ≡ length (prints (sectionOf given (framesOf s)) order)
-  planned-long [] a = refl
-  planned-long (i ∷ order) a =
-      let f = sectionOf given (framesOf s) in
-      let n : length (f i) ≡ length ((planIn s given).head i) + length (itemBytes i s) = ap length (sym a.0.1) ∙ length-append ((planIn s given).head i) (itemBytes i s) in
-      omega (arith, a.0.0, planned-long order a.1, length-append (f i) (prints f order))
+  planned_long : (order : List ℕ) → All Planned order → room_of (plan_in s given) order ≡ length (prints (section_of given (frames_of s)) order)
+  planned_long [] a = refl
+  planned_long (i ∷ order) a =
+      let f = section_of given (frames_of s) in
+      let n : length (f i) ≡ length ((plan_in s given).head i) + length (item_bytes i s) = ap length (sym a.0.1) ∙ length-append ((plan_in s given).head i) (item_bytes i s) in
+      omega (arith, a.0.0, planned_long order a.1, length-append (f i) (prints f order))
 
-  plan-long : (order : List ℕ) → allAmong orderIds order ≡ true → roomOf (planIn s given) order ≡ length (prints (sectionOf given (framesOf s)) order)
-  plan-long order e = planned-long order (listed-all Planned planned order e)
+  plan_long : (order : List ℕ) → all_among order_ids order ≡ true → room_of (plan_in s given) order ≡ length (prints (section_of given (frames_of s)) order)
+  plan_long order e = planned_long order (listed_all Planned planned order e)
 
 -- ---- the walk
 
@@ -70,23 +70,23 @@ pub record Filling (s order : List ℕ) (given : Given) (n : ℕ) (xs ys places 
   pub past : List Frame
   pub walk : Walked s past at
   pub bytes : List ℕ
-  pub laid : Laid (planIn s given) (λ i. joined (items_of i past)) places 0 order bytes
+  pub laid : Laid (plan_in s given) (λ i. joined (items_of i past)) places 0 order bytes
   pub done : Writes bytes xs ys (Length n)
   pub few : length places ≡ 16
   pub others : (i : ℕ) → i < 16 → Away i order → get_or places i 0 ≡ 0
 
 -- what was written, again
-writes-same : {b xs ys : List ℕ} {n : ℕ} → Writes b xs ys (Length n) → Writes b ys ys (Length n)
-writes-same {b} {xs} {ys} {n} w =
-    let (k, h, e) = told-length w refl in
+writes_same : {b xs ys : List ℕ} {n : ℕ} → Writes b xs ys (Length n) → Writes b ys ys (Length n)
+writes_same {b} {xs} {ys} {n} w =
+    let (k, h, e) = told_length w refl in
     let d : drop (length b) ys ≡ drop (length b) xs = ap (drop (length b)) e ∙ drop_at b (drop (length b) xs) (length b) refl in
     writes (omega (arith, ap length e, length-append b (drop (length b) xs))) k (e ∙ ap (λ (l : List ℕ). b ++ l) (sym d))
 
-filling-none : {s order : List ℕ} {given : Given} {n : ℕ} {xs ys places : List ℕ} → noFrames (run frame s) ≡ false → Once order → Headed (planIn s given) order xs ys places n
+filling_none : {s order : List ℕ} {given : Given} {n : ℕ} {xs ys places : List ℕ} → no_frames (run frame s) ≡ false → Once order → Headed (plan_in s given) order xs ys places n
     → Filling s order given n ys ys places 0
-filling-none {s} e o h =
+filling_none {s} e o h =
     let (all, q) = some_of (run frame s) e in
-    record { all = all; is = q; once = o; past = []; walk = walk_none s; bytes = h.bytes; laid = h.laid; done = writes-same h.done; few = h.few; others = h.others }
+    record { all = all; is = q; once = o; past = []; walk = walk_none s; bytes = h.bytes; laid = h.laid; done = writes_same h.done; few = h.few; others = h.others }
 
 module _ {s order : List ℕ} {given : Given} {n : ℕ} {xs ys places : List ℕ} {at : ℕ} (f : Filling s order given n xs ys places at) where
   -- a frame is found
@@ -104,25 +104,25 @@ module _ {s order : List ℕ} {given : Given} {n : ℕ} {xs ys places : List ℕ
     walk = walk_more f.walk h b
 
     kept : (j : ℕ) → (j ≡ i → ⊥) → joined (items_of j f.past) ≡ joined (items_of j next)
-    kept j d = ap joined (sym (items-other j f.past b.here (λ e. d (sym e ∙ b.is))))
+    kept j d = ap joined (sym (items_other j f.past b.here (λ e. d (sym e ∙ b.is))))
 
     long : length item ≡ end - (at + 5)
     long = omega (arith, b.long)
 
     abbrev Found : Type 0
-    Found = Spot (planIn s given) i item (λ j. joined (items_of j f.past)) (λ j. joined (items_of j next)) places moved 0 order f.bytes
+    Found = Spot (plan_in s given) i item (λ j. joined (items_of j f.past)) (λ j. joined (items_of j next)) places moved 0 order f.bytes
 
     found : Away i order ⊎ Found
     found =
-        let below = begins-below b in
+        let below = begins_below b in
         let few = f.few in
         let to = get_or places i 0 in
-        seek (planIn s given) i _ _ places moved (λ j d. (kept j d, sym (get_or-set_other places i j (to + (end - (at + 5))) 0 d))) (λ j. omega arith) item
-        (joined-one i f.past b.here b.is) (get_or-set_same places i (to + (end - (at + 5))) 0 (omega arith) ∙ ap (λ (k : ℕ). to + k) (sym long)) f.once f.laid
+        seek (plan_in s given) i _ _ places moved (λ j d. (kept j d, sym (get_or-set_other places i j (to + (end - (at + 5))) 0 d))) (λ j. omega arith) item
+        (joined_one i f.past b.here b.is) (get_or-set_same places i (to + (end - (at + 5))) 0 (omega arith) ∙ ap (λ (k : ℕ). to + k) (sym long)) f.once f.laid
 
     -- of a section that the order list does not have
-    filling-other : get_or places i 0 ≤ 0 → Filling s order given n xs ys places end
-    filling-other z = ⊎_elim away (λ p. absurd (omega (arith, p.lead, p.place))) found
+    filling_other : get_or places i 0 ≤ 0 → Filling s order given n xs ys places end
+    filling_other z = ⊎_elim away (λ p. absurd (omega (arith, p.lead, p.place))) found
       where
         away : Away i order → Filling s order given n xs ys places end
         away a =
@@ -133,7 +133,7 @@ module _ {s order : List ℕ} {given : Given} {n : ℕ} {xs ys places : List ℕ
               past = next;
               walk = walk;
               bytes = f.bytes;
-              laid = laid-other (planIn s given) i _ _ places places (λ j d. (kept j d, refl)) a f.laid;
+              laid = laid_other (plan_in s given) i _ _ places places (λ j d. (kept j d, refl)) a f.laid;
               done = f.done;
               few = f.few;
               others = f.others;
@@ -142,7 +142,7 @@ module _ {s order : List ℕ} {given : Given} {n : ℕ} {xs ys places : List ℕ
     -- and of one that it has
     module _ (some : 0 < get_or places i 0) where
       listed : Away i order → ⊥
-      listed a = omega (arith, f.others i (begins-below b) a)
+      listed a = omega (arith, f.others i (begins_below b) a)
 
       spot : Found
       spot = ⊎_elim (λ a. absurd (listed a)) (λ p. p) found
@@ -152,19 +152,19 @@ module _ {s order : List ℕ} {given : Given} {n : ℕ} {xs ys places : List ℕ
           omega (
             arith,
             spot.room,
-            items-bounded f.is i walk,
-            ap length (joined-one i f.past b.here b.is),
+            items_bounded f.is i walk,
+            ap length (joined_one i f.past b.here b.is),
             length-append (joined (items_of i f.past)) item,
-            total-at s i (begins-below b),
+            total_at s i (begins_below b),
             ap (λ (o : Option (List Frame)). length (joined (items_of i (held o)))) f.is,
           )
 
-      filling-room : Room item ys (get_or places i 0)
-      filling-room = within-room f.done spot.front spot.gap spot.rest spot.is (spot.place ∙ omega arith) item room
+      filling_room : Room item ys (get_or places i 0)
+      filling_room = within_room f.done spot.front spot.gap spot.rest spot.is (spot.place ∙ omega arith) item room
 
-      filling-item : {r : Written} {zs : List ℕ} → Writes (take (end - (at + 5)) (drop (at + 5) s)) (mid_of (get_or places i 0) (length ys - get_or places i 0) ys) zs r
+      filling_item : {r : Written} {zs : List ℕ} → Writes (take (end - (at + 5)) (drop (at + 5) s)) (mid_of (get_or places i 0) (length ys - get_or places i 0) ys) zs r
           → Filling s order given n xs (put_mid (get_or places i 0) (length ys - get_or places i 0) ys zs) moved end
-      filling-item w =
+      filling_item w =
           let p = spot in
           record {
             all = f.all;
@@ -174,7 +174,7 @@ module _ {s order : List ℕ} {given : Given} {n : ℕ} {xs ys places : List ℕ
             walk = walk;
             bytes = p.front ++ (item ++ (drop (length item) p.gap ++ p.rest));
             laid = p.put (drop (length item) p.gap) (omega (arith, length-drop (length item) p.gap, room));
-            done = within-put f.done p.front p.gap p.rest p.is (p.place ∙ omega arith) item room (writes_as (sym b.item) w);
+            done = within_put f.done p.front p.gap p.rest p.is (p.place ∙ omega arith) item room (writes_as (sym b.item) w);
             few = length-set places i (get_or places i 0 + (end - (at + 5))) ∙ f.few;
             others = λ j k a. get_or-set_other places i j (get_or places i 0 + (end - (at + 5))) 0 (λ e. listed (subst (λ (x : ℕ). Away x order) e a)) ∙ f.others j k a;
           }
@@ -182,50 +182,50 @@ module _ {s order : List ℕ} {given : Given} {n : ℕ} {xs ys places : List ℕ
 -- ---- the same, of whatever numbers the heads were written over whatever there was: the walk does not know them
 
 pub record Filled (s order : List ℕ) (n : ℕ) (xs start ys places : List ℕ) (at : ℕ) : Type 0 where
-  pub fills : (given : Given) (zs : List ℕ) → Headed (planIn s given) order zs xs start n → Filling s order given n xs ys places at
+  pub fills : (given : Given) (zs : List ℕ) → Headed (plan_in s given) order zs xs start n → Filling s order given n xs ys places at
 
 -- what the writing of the heads asks
-pub heads-room : (s : List ℕ) (t : Tallies) (given : Given) (order xs : List ℕ) → t ≡ tally_of (run frame s) → allAmong orderIds order ≡ true
-    → length (prints (sectionOf given (framesOf s)) order) ≤ length xs → roomOf (plan_of t.counts t.totals given) order ≤ length xs
-heads-room s t given order xs e a h = omega (arith, ap (λ (t : Tallies). roomOf (plan_of t.counts t.totals given) order) e, plan-long s given order a)
+pub heads_room : (s : List ℕ) (t : Tallies) (given : Given) (order xs : List ℕ) → t ≡ tally_of (run frame s) → all_among order_ids order ≡ true
+    → length (prints (section_of given (frames_of s)) order) ≤ length xs → room_of (plan_of t.counts t.totals given) order ≤ length xs
+heads_room s t given order xs e a h = omega (arith, ap (λ (t : Tallies). room_of (plan_of t.counts t.totals given) order) e, plan_long s given order a)
 
-pub filled_none : {s order : List ℕ} {n : ℕ} {xs start : List ℕ} → noFrames (run frame s) ≡ false → Once order → Filled s order n xs start xs start 0
-filled_none e o = record { fills = λ given zs h. filling-none e o h }
+pub filled_none : {s order : List ℕ} {n : ℕ} {xs start : List ℕ} → no_frames (run frame s) ≡ false → Once order → Filled s order n xs start xs start 0
+filled_none e o = record { fills = λ given zs h. filling_none e o h }
 
 module _ {s order : List ℕ} {n : ℕ} {xs start ys places : List ℕ} {at : ℕ} (f : Filled s order n xs start ys places at) where
   -- a frame is found
   module _ (l : at < length s) {i end : ℕ} {r : FrameAt} (e : r ≡ Is i end) (d : r ≡ frame_at s at) where
-    pub filled-other : get_or places i 0 ≤ 0 → Filled s order n xs start ys places end
-    filled-other z = record { fills = λ given zs h. filling-other (f.fills given zs h) l (frame-begins e s at d) z }
+    pub filled_other : get_or places i 0 ≤ 0 → Filled s order n xs start ys places end
+    filled_other z = record { fills = λ given zs h. filling_other (f.fills given zs h) l (frame_begins e s at d) z }
 
-    pub filled-item : {w : Written} {zs : List ℕ} → 0 < get_or places i 0
+    pub filled_item : {w : Written} {zs : List ℕ} → 0 < get_or places i 0
         → Writes (take (end - (at + 5)) (drop (at + 5) s)) (mid_of (get_or places i 0) (length ys - get_or places i 0) ys) zs w
         → Filled s order n xs start (put_mid (get_or places i 0) (length ys - get_or places i 0) ys zs) (set places i (get_or places i 0 + (end - (at + 5)))) end
-    filled-item p w = record { fills = λ given zs h. filling-item (f.fills given zs h) l (frame-begins e s at d) p w }
+    filled_item p w = record { fills = λ given zs h. filling_item (f.fills given zs h) l (frame_begins e s at d) p w }
 
   module _ (t : Tallies) (same : t ≡ tally_of (run frame s)) (given : Given) {zs : List ℕ} (h : Headed (plan_of t.counts t.totals given) order zs xs start n) where
-    heads : Headed (planIn s given) order zs xs start n
+    heads : Headed (plan_in s given) order zs xs start n
     heads = subst (λ (t : Tallies). Headed (plan_of t.counts t.totals given) order zs xs start n) same h
 
     filling : Filling s order given n xs ys places at
     filling = f.fills given zs heads
 
-    pub filled-long : length ys ≡ length zs
-    filled-long = same-long filling.done ∙ same-long heads.done
+    pub filled_long : length ys ≡ length zs
+    filled_long = same_long filling.done ∙ same_long heads.done
 
-    pub filled-stops : at < length s → {r : FrameAt} → r ≡ No → r ≡ frame_at s at → ⊥
-    filled-stops l e d = none-ne-some filling.all (sym (walk-stop filling.walk l (sym e ∙ d)) ∙ filling.is)
+    pub filled_stops : at < length s → {r : FrameAt} → r ≡ No → r ≡ frame_at s at → ⊥
+    filled_stops l e d = none-ne-some filling.all (sym (walk_stop filling.walk l (sym e ∙ d)) ∙ filling.is)
 
     module _ (l : at < length s) {i end : ℕ} {r : FrameAt} (e : r ≡ Is i end) (d : r ≡ frame_at s at) (p : 0 < get_or places i 0) where
-      pub filled-starts : get_or places i 0 ≤ length ys
-      filled-starts = (filling-room filling l (frame-begins e s at d) p).start
+      pub filled_starts : get_or places i 0 ≤ length ys
+      filled_starts = (filling_room filling l (frame_begins e s at d) p).start
 
-      pub filled-fits : length zs < 2 ^ 64 → Fits w64 (get_or places i 0 + (end - (at + 5)))
-      filled-fits m = let b = frame-begins e s at d in record { fits = omega (arith, room-long (filling-room filling l b p), filled-long, b.long) }
+      pub filled_fits : length zs < 2 ^ 64 → Fits w64 (get_or places i 0 + (end - (at + 5)))
+      filled_fits m = let b = frame_begins e s at d in record { fits = omega (arith, room_long (filling_room filling l b p), filled_long, b.long) }
 
-    pub filled-done : length s ≤ at → allAmong orderIds order ≡ true → Writes (prints (sectionOf given (framesOf s)) order) zs ys (Length n)
-    filled-done l a =
-        let p = planIn s given in
-        let all : filling.past ≡ framesOf s = sym (ap held (walk-done filling.walk l)) in
+    pub filled_done : length s ≤ at → all_among order_ids order ≡ true → Writes (prints (section_of given (frames_of s)) order) zs ys (Length n)
+    filled_done l a =
+        let p = plan_in s given in
+        let all : filling.past ≡ frames_of s = sym (ap held (walk_done filling.walk l)) in
         let laid = subst (λ (fs : List Frame). Laid p (λ i. joined (items_of i fs)) places 0 order filling.bytes) all filling.laid in
-        writes_as (laid-all (sectionOf given (framesOf s)) laid (listed-all (Planned s given) (planned s given) order a)) (writes_again heads.done filling.done)
+        writes_as (laid_all (section_of given (frames_of s)) laid (listed_all (Planned s given) (planned s given) order a)) (writes_again heads.done filling.done)

@@ -12,19 +12,19 @@ use lib.ListN.{length, take, drop, get_or, length-append, take-append-drop}
 use lib.Seq.{take-suc, take_all}
 use borrow.Author.Tests.{eqb-true}
 use borrow.Rule.Slice.PartMut.{put_mid, mid_of}
-use Rattle.format.specs.Lists.{All, prints, prints-append, prints-more}
+use Rattle.format.specs.Lists.{All, prints, prints_append, prints_more}
 use Rattle.format.specs.Runs.{run}
-use Rattle.format.specs.Write.{Writes, writes, writes_as, writes_then, room-then}
+use Rattle.format.specs.Write.{Writes, writes, writes_as, writes_then, room_then}
 use Rattle.format.specs.declared.Written.TheVariants.{Length}
 use Rattle.leb128.specs.Leb.{uleb}
-use Rattle.frames.specs.Frames.{frame, framesOf, frames-ok}
-use Rattle.frames.specs.Ids.{sections, among, among-each}
-use Rattle.frames.specs.Builder.{storeMost}
-use Rattle.frames.specs.Tally.{items_of, itemBytes, tally_of, no_items, items-within, count_at, total-at}
+use Rattle.frames.specs.Frames.{frame, frames_of, frames_ok}
+use Rattle.frames.specs.Ids.{sections, among, among_each}
+use Rattle.frames.specs.Builder.{store_most}
+use Rattle.frames.specs.Tally.{items_of, item_bytes, tally_of, no_items, items_within, count_at, total_at}
 use Rattle.frames.specs.declared.Tallies.{Tallies}
 use Rattle.sections.specs.declared.Given.{Given}
-use Rattle.sections.specs.Section.{section, sectionOf, said_of, dataCount}
-use Rattle.sections.specs.Order.{orderMost, orderIds, allAmong}
+use Rattle.sections.specs.Section.{section, section_of, said_of, data_count}
+use Rattle.sections.specs.Order.{order_most, order_ids, all_among}
 
 -- ---- an id of an order list
 
@@ -32,74 +32,74 @@ both : (t u : Bool) → cond t u false ≡ true → (t ≡ true) × (u ≡ true)
 both true u e = (refl, e)
 both false u e = absurd (true≢false (sym e))
 
-listed : (order : List ℕ) (j : ℕ) → allAmong orderIds order ≡ true → j < length order → among orderIds (get_or order j 0) ≡ true
+listed : (order : List ℕ) (j : ℕ) → all_among order_ids order ≡ true → j < length order → among order_ids (get_or order j 0) ≡ true
 listed [] j e h = absurd (omega arith)
-listed (i ∷ order) zero e h = (both (among orderIds i) (allAmong orderIds order) e).0
-listed (i ∷ order) (suc j) e h = listed order j (both (among orderIds i) (allAmong orderIds order) e).1 (omega arith)
+listed (i ∷ order) zero e h = (both (among order_ids i) (all_among order_ids order) e).0
+listed (i ∷ order) (suc j) e h = listed order j (both (among order_ids i) (all_among order_ids order) e).1 (omega arith)
 
 -- it is below 16
-listed_below : (i : ℕ) → among orderIds i ≡ true → i < 16
-listed_below i e = among-each (λ k. k < 16) orderIds i (omega arith, (omega arith, (omega arith, (omega arith, (omega arith, (omega arith, tt)))))) e
+listed_below : (i : ℕ) → among order_ids i ≡ true → i < 16
+listed_below i e = among_each (λ k. k < 16) order_ids i (omega arith, (omega arith, (omega arith, (omega arith, (omega arith, (omega arith, tt)))))) e
 
 -- the next one, as the code takes it
-module _ (order : List ℕ) (j : ℕ) (e : allAmong orderIds order ≡ true) (h : j < length order) where
-  pub next-below : get_or order j 0 < 16
-  next-below = listed_below (get_or order j 0) (listed order j e h)
+module _ (order : List ℕ) (j : ℕ) (e : all_among order_ids order ≡ true) (h : j < length order) where
+  pub next_below : get_or order j 0 < 16
+  next_below = listed_below (get_or order j 0) (listed order j e h)
 
   pub next_fits : Fits w64 (get_or order j 0)
-  next_fits = let b = next-below in record { fits = omega arith }
+  next_fits = let b = next_below in record { fits = omega arith }
 
-  pub next-scaled : Fits w64 (get_or order j 0 * 8)
-  next-scaled = let b = next-below in record { fits = omega arith }
+  pub next_scaled : Fits w64 (get_or order j 0 * 8)
+  next_scaled = let b = next_below in record { fits = omega arith }
 
 -- so what holds of ids below 16 holds of each
-pub listed-all : (P : ℕ → Type 0) → ((i : ℕ) → i < 16 → P i) → (order : List ℕ) → allAmong orderIds order ≡ true → All P order
-listed-all P f [] e = tt
-listed-all P f (i ∷ order) e = let (a, b) = both (among orderIds i) (allAmong orderIds order) e in (f i (listed_below i a), listed-all P f order b)
+pub listed_all : (P : ℕ → Type 0) → ((i : ℕ) → i < 16 → P i) → (order : List ℕ) → all_among order_ids order ≡ true → All P order
+listed_all P f [] e = tt
+listed_all P f (i ∷ order) e = let (a, b) = both (among order_ids i) (all_among order_ids order) e in (f i (listed_below i a), listed_all P f order b)
 
 -- ---- what a section says
 
 -- the count that it says
 abbrev said : Given → List ℕ → ℕ → ℕ
-said given s i = said_of given i (length (items_of i (framesOf s)))
+said given s i = said_of given i (length (items_of i (frames_of s)))
 
-section-said : (given : Given) (s : List ℕ) (i : ℕ) → sectionOf given (framesOf s) i ≡ section i (uleb (said given s i) ++ itemBytes i s)
-section-said given s i = go (eqb i dataCount) refl
+section_said : (given : Given) (s : List ℕ) (i : ℕ) → section_of given (frames_of s) i ≡ section i (uleb (said given s i) ++ item_bytes i s)
+section_said given s i = go (eqb i data_count) refl
   where
-    go : (t : Bool) → eqb i dataCount ≡ t → sectionOf given (framesOf s) i ≡ section i (uleb (said given s i) ++ itemBytes i s)
+    go : (t : Bool) → eqb i data_count ≡ t → section_of given (frames_of s) i ≡ section i (uleb (said given s i) ++ item_bytes i s)
     go true e =
-        let z : items_of i (framesOf s) ≡ [] = no_items i (ap (among sections) (eqb-true i dataCount e)) (framesOf s) (frames-ok s) in
+        let z : items_of i (frames_of s) ≡ [] = no_items i (ap (among sections) (eqb-true i data_count e)) (frames_of s) (frames_ok s) in
         rw (e, z, append-nil)
     go false e = rw e
 
 -- and how a tally tells it
 module _ (s : List ℕ) (i : ℕ) (h : i < 16) where
-  total-is : {totals : List ℕ} → totals ≡ (tally_of (run frame s)).totals → get_or totals i 0 ≡ length (itemBytes i s)
-  total-is e = ap (λ (l : List ℕ). get_or l i 0) e ∙ total-at s i h
+  total-is : {totals : List ℕ} → totals ≡ (tally_of (run frame s)).totals → get_or totals i 0 ≡ length (item_bytes i s)
+  total-is e = ap (λ (l : List ℕ). get_or l i 0) e ∙ total_at s i h
 
-  pub section-is : {counts : List ℕ} → counts ≡ (tally_of (run frame s)).counts → (given : Given) {c : ℕ} → c ≡ said_of given i (get_or counts i 0)
-      → section i (uleb c ++ itemBytes i s) ≡ sectionOf given (framesOf s) i
-  section-is e given {c} d =
+  pub section_is : {counts : List ℕ} → counts ≡ (tally_of (run frame s)).counts → (given : Given) {c : ℕ} → c ≡ said_of given i (get_or counts i 0)
+      → section i (uleb c ++ item_bytes i s) ≡ section_of given (frames_of s) i
+  section_is e given {c} d =
       let w : c ≡ said given s i = d ∙ ap (said_of given i) (ap (λ (l : List ℕ). get_or l i 0) e ∙ count_at s i h) in
-      ap (λ (x : ℕ). section i (uleb x ++ itemBytes i s)) w ∙ sym (section-said given s i)
+      ap (λ (x : ℕ). section i (uleb x ++ item_bytes i s)) w ∙ sym (section_said given s i)
 
 module _ (s : List ℕ) (t : Tallies) (e : t ≡ tally_of (run frame s)) (i : ℕ) (h : i < 16) where
-  pub total-told : get_or t.totals i 0 ≡ length (itemBytes i s)
-  total-told = total-is s i h (ap (λ (t : Tallies). t.totals) e)
+  pub total_told : get_or t.totals i 0 ≡ length (item_bytes i s)
+  total_told = total-is s i h (ap (λ (t : Tallies). t.totals) e)
 
-  pub total-few : length s ≤ storeMost → get_or t.totals i 0 ≤ storeMost
-  total-few l = omega (arith, total-told, items-within i s)
+  pub total_few : length s ≤ store_most → get_or t.totals i 0 ≤ store_most
+  total_few l = omega (arith, total_told, items_within i s)
 
 -- ---- one section more
 
 module _ (f : ℕ → List ℕ) (order : List ℕ) (j : ℕ) (h : j < length order) where
   more : prints f (take (j + 1) order) ≡ prints f (take j order) ++ f (get_or order j 0)
-  more = rw (add-one j) (ap (prints f) (take-suc order j 0 h) ∙ prints-more f (take j order) (get_or order j 0))
+  more = rw (add-one j) (ap (prints f) (take-suc order j 0 h) ∙ prints_more f (take j order) (get_or order j 0))
 
   bounded : length (prints f (take j order) ++ f (get_or order j 0)) ≤ length (prints f order)
   bounded =
       let r = drop (j + 1) order in
-      let e : prints f (take (j + 1) order) ++ prints f r ≡ prints f order = sym (prints-append f (take (j + 1) order) r) ∙ ap (prints f) (take-append-drop (j + 1) order) in
+      let e : prints f (take (j + 1) order) ++ prints f r ≡ prints f order = sym (prints_append f (take (j + 1) order) r) ∙ ap (prints f) (take-append-drop (j + 1) order) in
       omega (arith, ap length e, length-append (prints f (take (j + 1) order)) (prints f r), ap length more)
 
 -- ---- their length
@@ -107,72 +107,72 @@ module _ (f : ℕ → List ℕ) (order : List ℕ) (j : ℕ) (h : j < length ord
 -- the first j of them have n bytes
 pub record Measured (order : List ℕ) (given : Given) (counts totals : List ℕ) (n j : ℕ) : Type 0 where
   pub sum : (s : List ℕ) → counts ≡ (tally_of (run frame s)).counts → totals ≡ (tally_of (run frame s)).totals
-      → n ≡ length (prints (sectionOf given (framesOf s)) (take j order))
-  pub few : n ≤ j * (storeMost + 21)
+      → n ≡ length (prints (section_of given (frames_of s)) (take j order))
+  pub few : n ≤ j * (store_most + 21)
   pub within : j ≤ length order
 
-pub measured-none : {order : List ℕ} {given : Given} {counts totals : List ℕ} → Measured order given counts totals 0 0
-measured-none = record { sum = λ s p q. refl; few = omega arith; within = omega arith }
+pub measured_none : {order : List ℕ} {given : Given} {counts totals : List ℕ} → Measured order given counts totals 0 0
+measured_none = record { sum = λ s p q. refl; few = omega arith; within = omega arith }
 
 -- the next one is not long
-pub next-few : (order : List ℕ) (j : ℕ) (totals : List ℕ) → ((i : ℕ) → i < 16 → get_or totals i 0 ≤ storeMost) → allAmong orderIds order ≡ true → j < length order
-    → get_or totals (get_or order j 0) 0 ≤ storeMost
-next-few order j totals f a h = f (get_or order j 0) (next-below order j a h)
+pub next_few : (order : List ℕ) (j : ℕ) (totals : List ℕ) → ((i : ℕ) → i < 16 → get_or totals i 0 ≤ store_most) → all_among order_ids order ≡ true → j < length order
+    → get_or totals (get_or order j 0) 0 ≤ store_most
+next_few order j totals f a h = f (get_or order j 0) (next_below order j a h)
 
 module _ {order : List ℕ} {given : Given} {counts totals : List ℕ} {n j : ℕ} (m : Measured order given counts totals n j) where
   -- r is its length
-  module _ (h : j < length order) (a : allAmong orderIds order ≡ true) (f : (i : ℕ) → i < 16 → get_or totals i 0 ≤ storeMost) {r : ℕ} (k : r ≤ get_or totals (get_or order j 0) 0 + 21) where
-    pub measured-fits : length order ≤ orderMost → Fits w64 (n + r)
-    measured-fits l = record { fits = omega (arith, m.few, next-few order j totals f a h) }
+  module _ (h : j < length order) (a : all_among order_ids order ≡ true) (f : (i : ℕ) → i < 16 → get_or totals i 0 ≤ store_most) {r : ℕ} (k : r ≤ get_or totals (get_or order j 0) 0 + 21) where
+    pub measured_fits : length order ≤ order_most → Fits w64 (n + r)
+    measured_fits l = record { fits = omega (arith, m.few, next_few order j totals f a h) }
 
-    pub measured-more : (c : ℕ) → c ≡ said_of given (get_or order j 0) (get_or counts (get_or order j 0) 0)
+    pub measured_more : (c : ℕ) → c ≡ said_of given (get_or order j 0) (get_or counts (get_or order j 0) 0)
         → ((i : ℕ) (items : List ℕ) → length items ≡ get_or totals (get_or order j 0) 0 → r ≡ length (section i (uleb c ++ items))) → Measured order given counts totals (n + r) (j + 1)
-    measured-more c d l = record { sum = sum; few = omega (arith, m.few, next-few order j totals f a h); within = omega arith }
+    measured_more c d l = record { sum = sum; few = omega (arith, m.few, next_few order j totals f a h); within = omega arith }
       where
         sum : (s : List ℕ) → counts ≡ (tally_of (run frame s)).counts → totals ≡ (tally_of (run frame s)).totals
-            → n + r ≡ length (prints (sectionOf given (framesOf s)) (take (j + 1) order))
+            → n + r ≡ length (prints (section_of given (frames_of s)) (take (j + 1) order))
         sum s p q =
             let i = get_or order j 0 in
-            let b = next-below order j a h in
-            let g = sectionOf given (framesOf s) in
-            let u : r ≡ length (g i) = l i (itemBytes i s) (sym (total-is s i b q)) ∙ ap length (section-is s i b p given d) in
+            let b = next_below order j a h in
+            let g = section_of given (frames_of s) in
+            let u : r ≡ length (g i) = l i (item_bytes i s) (sym (total-is s i b q)) ∙ ap length (section_is s i b p given d) in
             omega (arith, m.sum s p q, ap length (more g order j h), length-append (prints g (take j order)) (g i))
 
-  pub measured-few : length order ≤ orderMost → n ≤ orderMost * (storeMost + 21)
-  measured-few h = omega (arith, m.few, m.within)
+  pub measured_few : length order ≤ order_most → n ≤ order_most * (store_most + 21)
+  measured_few h = omega (arith, m.few, m.within)
 
-pub measured-all : {order : List ℕ} {given : Given} (t : Tallies) {n j : ℕ} → Measured order given t.counts t.totals n j → length order ≤ j
-    → (s : List ℕ) → t ≡ tally_of (run frame s) → n ≡ length (prints (sectionOf given (framesOf s)) order)
-measured-all {order} {given} t {n} {j} m h s e =
-    m.sum s (ap (λ (t : Tallies). t.counts) e) (ap (λ (t : Tallies). t.totals) e) ∙ ap (λ (l : List ℕ). length (prints (sectionOf given (framesOf s)) l)) (take_all j order h)
+pub measured_all : {order : List ℕ} {given : Given} (t : Tallies) {n j : ℕ} → Measured order given t.counts t.totals n j → length order ≤ j
+    → (s : List ℕ) → t ≡ tally_of (run frame s) → n ≡ length (prints (section_of given (frames_of s)) order)
+measured_all {order} {given} t {n} {j} m h s e =
+    m.sum s (ap (λ (t : Tallies). t.counts) e) (ap (λ (t : Tallies). t.totals) e) ∙ ap (λ (l : List ℕ). length (prints (section_of given (frames_of s)) l)) (take_all j order h)
 
 -- ---- their writing
 
 -- the first j of them are written, n bytes
 pub record Put (order : List ℕ) (given : Given) (s xs ys : List ℕ) (n j : ℕ) : Type 0 where
-  pub done : Writes (prints (sectionOf given (framesOf s)) (take j order)) xs ys (Length n)
+  pub done : Writes (prints (section_of given (frames_of s)) (take j order)) xs ys (Length n)
 
-pub put-none : {order : List ℕ} {given : Given} {s xs : List ℕ} → Put order given s xs xs 0 0
-put-none = record { done = writes (omega arith) refl refl }
+pub put_none : {order : List ℕ} {given : Given} {s xs : List ℕ} → Put order given s xs xs 0 0
+put_none = record { done = writes (omega arith) refl refl }
 
 module _ {order : List ℕ} {given : Given} {s xs ys : List ℕ} {n j : ℕ} (p : Put order given s xs ys n j) where
   -- c is the count that the next section says
-  module _ (h : j < length order) (a : allAmong orderIds order ≡ true) (t : Tallies) (e : t ≡ tally_of (run frame s)) (c : ℕ)
+  module _ (h : j < length order) (a : all_among order_ids order ≡ true) (t : Tallies) (e : t ≡ tally_of (run frame s)) (c : ℕ)
       (d : c ≡ said_of given (get_or order j 0) (get_or t.counts (get_or order j 0) 0)) where
     abbrev i : ℕ
     i = get_or order j 0
 
-    next : section i (uleb c ++ itemBytes i s) ≡ sectionOf given (framesOf s) i
-    next = section-is s i (next-below order j a h) (ap (λ (t : Tallies). t.counts) e) given d
+    next : section i (uleb c ++ item_bytes i s) ≡ section_of given (frames_of s) i
+    next = section_is s i (next_below order j a h) (ap (λ (t : Tallies). t.counts) e) given d
 
-    pub put-room : length (prints (sectionOf given (framesOf s)) order) ≤ length xs → length (section i (uleb c ++ itemBytes i s)) ≤ length (mid_of n (length ys - n) ys)
-    put-room k =
-        let f = sectionOf given (framesOf s) in
-        omega (arith, ap length next, (room-then (f i) p.done (omega (arith, bounded f order j h))).room)
+    pub put_room : length (prints (section_of given (frames_of s)) order) ≤ length xs → length (section i (uleb c ++ item_bytes i s)) ≤ length (mid_of n (length ys - n) ys)
+    put_room k =
+        let f = section_of given (frames_of s) in
+        omega (arith, ap length next, (room_then (f i) p.done (omega (arith, bounded f order j h))).room)
 
-    pub put-more : {zs : List ℕ} {m : ℕ} → Writes (section i (uleb c ++ itemBytes i s)) (mid_of n (length ys - n) ys) zs (Length m)
+    pub put_more : {zs : List ℕ} {m : ℕ} → Writes (section i (uleb c ++ item_bytes i s)) (mid_of n (length ys - n) ys) zs (Length m)
         → Put order given s xs (put_mid n (length ys - n) ys zs) (n + m) (j + 1)
-    put-more w = record { done = writes_as (sym (more (sectionOf given (framesOf s)) order j h)) (writes_then p.done (writes_as next w)) }
+    put_more w = record { done = writes_as (sym (more (section_of given (frames_of s)) order j h)) (writes_then p.done (writes_as next w)) }
 
-  pub put_all : length order ≤ j → Writes (prints (sectionOf given (framesOf s)) order) xs ys (Length n)
-  put_all h = writes_as (ap (prints (sectionOf given (framesOf s))) (take_all j order h)) p.done
+  pub put_all : length order ≤ j → Writes (prints (section_of given (frames_of s)) order) xs ys (Length n)
+  put_all h = writes_as (ap (prints (section_of given (frames_of s))) (take_all j order h)) p.done

@@ -8,61 +8,61 @@ use mir.Syntax.{w64}
 use mir.Val.{Fits}
 use lib.ListN.{length, set, length-append}
 use borrow.Rule.Slice.PartMut.{put_mid, mid_of}
-use Rattle.format.specs.Write.{Writes, Room, write-one, writes_as, writes_then, room-then, told-short, within, same-long}
+use Rattle.format.specs.Write.{Writes, Room, write_one, writes_as, writes_then, room_then, told_short, within, same_long}
 use Rattle.format.specs.declared.Written.{Written}
 use Rattle.format.specs.declared.Written.TheVariants.{Length, Short}
 use Rattle.leb128.specs.Leb.{uleb}
 use Rattle.leb128.proofs.Writing.{ten}
-use Rattle.frames.specs.Builder.{storeMost}
-use Rattle.frames.specs.Tally.{itemBytes}
+use Rattle.frames.specs.Builder.{store_most}
+use Rattle.frames.specs.Tally.{item_bytes}
 use Rattle.sections.specs.Section.{section, head_of}
-use Rattle.sections.proofs.Lengths.{counted-long, section-parts}
+use Rattle.sections.proofs.Lengths.{counted_long, section_parts}
 
 -- ---- a number: where there is room, it is written
 
 module _ {b xs ys : List ℕ} {r : Written} (w : Writes b xs ys r) where
-  pub number-written : {k : ℕ} → r ≡ Length k → Writes b xs ys (Length k)
-  number-written e = subst (Writes b xs ys) e w
+  pub number_written : {k : ℕ} → r ≡ Length k → Writes b xs ys (Length k)
+  number_written e = subst (Writes b xs ys) e w
 
-  pub never-short : r ≡ Short → length b ≤ length xs → ⊥
-  never-short e h = omega (arith, (told-short w e).0)
+  pub never_short : r ≡ Short → length b ≤ length xs → ⊥
+  never_short e h = omega (arith, (told_short w e).0)
 
 -- ---- its length: k bytes say the count
 
-module _ {k : ℕ} (count : ℕ) (e : k ≡ length (uleb count)) (f : Fits w64 count) {total : ℕ} (h : total ≤ storeMost) where
+module _ {k : ℕ} (count : ℕ) (e : k ≡ length (uleb count)) (f : Fits w64 count) {total : ℕ} (h : total ≤ store_most) where
   short : k ≤ 10
   short = omega (arith, ten false count f.fits)
 
-  pub contents-fit : Fits w64 (k + total)
-  contents-fit = let s = short in record { fits = omega arith }
+  pub contents_fit : Fits w64 (k + total)
+  contents_fit = let s = short in record { fits = omega arith }
 
   -- and l bytes the size
   module _ {l : ℕ} (d : l ≡ length (uleb (k + total))) where
-    short-size : l ≤ 10
-    short-size = let s = short in omega (arith, ten false (k + total) (omega arith))
+    short_size : l ≤ 10
+    short_size = let s = short in omega (arith, ten false (k + total) (omega arith))
 
-    pub id-size-fit : Fits w64 (1 + l)
-    id-size-fit = let s = short-size in record { fits = omega arith }
+    pub id_size_fit : Fits w64 (1 + l)
+    id_size_fit = let s = short_size in record { fits = omega arith }
 
-    pub section-fits : Fits w64 (1 + l + (k + total))
-    section-fits = let s = short in let t = short-size in record { fits = omega arith }
+    pub section_fits : Fits w64 (1 + l + (k + total))
+    section_fits = let s = short in let t = short_size in record { fits = omega arith }
 
-    pub section-few : 1 + l + (k + total) ≤ total + 21
-    section-few = let s = short in let t = short-size in omega arith
+    pub section_few : 1 + l + (k + total) ≤ total + 21
+    section_few = let s = short in let t = short_size in omega arith
 
-pub section-measured : {k : ℕ} (count : ℕ) → k ≡ length (uleb count) → (total : ℕ) {l : ℕ} → l ≡ length (uleb (k + total))
+pub section_measured : {k : ℕ} (count : ℕ) → k ≡ length (uleb count) → (total : ℕ) {l : ℕ} → l ≡ length (uleb (k + total))
     → (i : ℕ) (items : List ℕ) → length items ≡ total → 1 + l + (k + total) ≡ length (section i (uleb count ++ items))
-section-measured {k} count e total d i items q = ap (λ (n : ℕ). 1 + n + (k + total)) d ∙ sym (counted-long i count items (k + total) (omega arith))
+section_measured {k} count e total d i items q = ap (λ (n : ℕ). 1 + n + (k + total)) d ∙ sym (counted_long i count items (k + total) (omega arith))
 
 -- ---- its head
 
 module _ (id count total : ℕ) (out : List ℕ) (h : length (head_of id count total) ≤ length out) where
   -- the id is written
   first : Writes (id ∷ []) out (set out 0 id) (Length 1)
-  first = write-one id out (omega arith)
+  first = write_one id out (omega arith)
 
-  pub head-starts : 1 ≤ length (set out 0 id)
-  head-starts = omega (arith, h, same-long first)
+  pub head_starts : 1 ≤ length (set out 0 id)
+  head_starts = omega (arith, h, same_long first)
 
   module _ (k : ℕ) (e : k ≡ length (uleb count)) where
     abbrev size : List ℕ
@@ -75,7 +75,7 @@ module _ (id count total : ℕ) (out : List ℕ) (h : length (head_of id count t
     room = omega (arith, ap length parts)
 
     pub size_room : length size ≤ length (mid_of 1 (length (set out 0 id) - 1) (set out 0 id))
-    size_room = (room-then size first (omega (arith, room, length-append size (uleb count)))).room
+    size_room = (room_then size first (omega (arith, room, length-append size (uleb count)))).room
 
     -- and the size
     module _ {zs : List ℕ} {m : ℕ} (w : Writes size (mid_of 1 (length (set out 0 id) - 1) (set out 0 id)) zs (Length m)) where
@@ -89,41 +89,41 @@ module _ (id count total : ℕ) (out : List ℕ) (h : length (head_of id count t
       size_fits l = record { fits = omega (arith, within second) }
 
       left : Room (uleb count) sized (1 + m)
-      left = room-then (uleb count) second room
+      left = room_then (uleb count) second room
 
-      pub count-starts : 1 + m ≤ length sized
-      count-starts = left.start
+      pub count_starts : 1 + m ≤ length sized
+      count_starts = left.start
 
       pub count_room : length (uleb count) ≤ length (mid_of (1 + m) (length sized - (1 + m)) sized)
       count_room = left.room
 
       -- and the count
       module _ {ws : List ℕ} {n : ℕ} (v : Writes (uleb count) (mid_of (1 + m) (length sized - (1 + m)) sized) ws (Length n)) where
-        pub head-written : Writes (head_of id count total) out (put_mid (1 + m) (length sized - (1 + m)) sized ws) (Length (1 + m + n))
-        head-written = writes_as parts (writes_then second v)
+        pub head_written : Writes (head_of id count total) out (put_mid (1 + m) (length sized - (1 + m)) sized ws) (Length (1 + m + n))
+        head_written = writes_as parts (writes_then second v)
 
-        pub head-long : length (put_mid (1 + m) (length sized - (1 + m)) sized ws) ≡ length out
-        head-long = same-long head-written
+        pub head_long : length (put_mid (1 + m) (length sized - (1 + m)) sized ws) ≡ length out
+        head_long = same_long head_written
 
-        pub head-fits : length out < 2 ^ 64 → Fits w64 (1 + m + n)
-        head-fits l = record { fits = omega (arith, within head-written) }
+        pub head_fits : length out < 2 ^ 64 → Fits w64 (1 + m + n)
+        head_fits l = record { fits = omega (arith, within head_written) }
 
 -- ---- and its items
 
-module _ (id count total : ℕ) (s out : List ℕ) (e : total ≡ length (itemBytes id s)) where
-  whole : section id (uleb count ++ itemBytes id s) ≡ head_of id count total ++ itemBytes id s
-  whole = section-parts id count (itemBytes id s) total e
+module _ (id count total : ℕ) (s out : List ℕ) (e : total ≡ length (item_bytes id s)) where
+  whole : section id (uleb count ++ item_bytes id s) ≡ head_of id count total ++ item_bytes id s
+  whole = section_parts id count (item_bytes id s) total e
 
-  module _ (h : length (section id (uleb count ++ itemBytes id s)) ≤ length out) where
-    fits : length (head_of id count total ++ itemBytes id s) ≤ length out
+  module _ (h : length (section id (uleb count ++ item_bytes id s)) ≤ length out) where
+    fits : length (head_of id count total ++ item_bytes id s) ≤ length out
     fits = omega (arith, ap length whole)
 
-    pub head-room : length (head_of id count total) ≤ length out
-    head-room = omega (arith, fits, length-append (head_of id count total) (itemBytes id s))
+    pub head_room : length (head_of id count total) ≤ length out
+    head_room = omega (arith, fits, length-append (head_of id count total) (item_bytes id s))
 
-    pub items-room : {ys : List ℕ} {n : ℕ} → Writes (head_of id count total) out ys (Length n) → total ≤ length (mid_of n (length ys - n) ys)
-    items-room w = omega (arith, (room-then (itemBytes id s) w fits).room)
+    pub items_room : {ys : List ℕ} {n : ℕ} → Writes (head_of id count total) out ys (Length n) → total ≤ length (mid_of n (length ys - n) ys)
+    items_room w = omega (arith, (room_then (item_bytes id s) w fits).room)
 
-  pub section-written : {ys : List ℕ} {n : ℕ} → Writes (head_of id count total) out ys (Length n) → {zs : List ℕ} {m : ℕ} → Writes (itemBytes id s) (mid_of n (length ys - n) ys) zs (Length m)
-      → Writes (section id (uleb count ++ itemBytes id s)) out (put_mid n (length ys - n) ys zs) (Length (n + m))
-  section-written w v = writes_as (sym whole) (writes_then w v)
+  pub section_written : {ys : List ℕ} {n : ℕ} → Writes (head_of id count total) out ys (Length n) → {zs : List ℕ} {m : ℕ} → Writes (item_bytes id s) (mid_of n (length ys - n) ys) zs (Length m)
+      → Writes (section id (uleb count ++ item_bytes id s)) out (put_mid n (length ys - n) ys zs) (Length (n + m))
+  section_written w v = writes_as (sym whole) (writes_then w v)

@@ -10,8 +10,8 @@ use lib.ListN.{length, take, get_or, set, length-set}
 use lib.Seq.{take-suc, take_all, get_or-set_same, get_or-set_other}
 use Rattle.format.specs.Lists.{All, all_more}
 use Rattle.frames.specs.Tally.{table, table_at}
-use Rattle.sections.specs.Order.{orderIds, allAmong, Away, Once}
-use Rattle.sections.proofs.Listed.{next-below}
+use Rattle.sections.specs.Order.{order_ids, all_among, Away, Once}
+use Rattle.sections.proofs.Listed.{next_below}
 
 -- ---- lists of ids
 
@@ -20,15 +20,15 @@ all-at P [] k a h = absurd (omega arith)
 all-at P (x ∷ xs) zero a h = a.0
 all-at P (x ∷ xs) (suc k) a h = all-at P xs k a.1 (omega arith)
 
-pub all-less : (P : ℕ → Type 0) (xs : List ℕ) (i : ℕ) → All P (xs ++ (i ∷ [])) → All P xs × P i
-all-less P [] i a = (tt, a.0)
-all-less P (x ∷ xs) i a = let (b, c) = all-less P xs i a.1 in ((a.0, b), c)
+pub all_less : (P : ℕ → Type 0) (xs : List ℕ) (i : ℕ) → All P (xs ++ (i ∷ [])) → All P xs × P i
+all_less P [] i a = (tt, a.0)
+all_less P (x ∷ xs) i a = let (b, c) = all_less P xs i a.1 in ((a.0, b), c)
 
 -- an id is not among those before it
-pub once-at : (order : List ℕ) (k : ℕ) → Once order → k < length order → Away (get_or order k 0) (take k order)
-once-at [] k o h = absurd (omega arith)
-once-at (i ∷ order) zero o h = tt
-once-at (i ∷ order) (suc k) o h = (λ e. all-at (λ j. j ≡ i → ⊥) order k o.0 (omega arith) (sym e), once-at order k o.1 (omega arith))
+pub once_at : (order : List ℕ) (k : ℕ) → Once order → k < length order → Away (get_or order k 0) (take k order)
+once_at [] k o h = absurd (omega arith)
+once_at (i ∷ order) zero o h = tt
+once_at (i ∷ order) (suc k) o h = (λ e. all-at (λ j. j ≡ i → ⊥) order k o.0 (omega arith) (sym e), once_at order k o.1 (omega arith))
 
 -- one id more
 pub take_more : (order : List ℕ) (j : ℕ) → j < length order → take (j + 1) order ≡ take j order ++ (get_or order j 0 ∷ [])
@@ -43,9 +43,9 @@ once_more (j ∷ order) i o a = (all_more (λ k. k ≡ j → ⊥) order i o.0 (�
 abbrev pub zeros : List ℕ
 zeros = 0 ∷ 0 ∷ 0 ∷ 0 ∷ 0 ∷ 0 ∷ 0 ∷ 0 ∷ 0 ∷ 0 ∷ 0 ∷ 0 ∷ 0 ∷ 0 ∷ 0 ∷ 0 ∷ []
 
-pub zeros-at : (i : ℕ) → i < 16 → get_or zeros i 0 ≡ 0
+pub zeros_at : (i : ℕ) → i < 16 → get_or zeros i 0 ≡ 0
 unfolding table
-zeros-at i h = table_at 16 (λ j. 0) i h
+zeros_at i h = table_at 16 (λ j. 0) i h
 
 -- ---- the look
 
@@ -57,13 +57,13 @@ pub record Seen (order seen : List ℕ) (j : ℕ) : Type 0 where
   pub noted : (i : ℕ) → i < 16 → get_or seen i 0 ≡ 1 → Away i (take j order) → ⊥
 
 pub seen_none : {order : List ℕ} → Seen order zeros 0
-seen_none = record { once = tt; few = refl; others = λ i h. tt; noted = λ i b q a. omega (arith, zeros-at i b) }
+seen_none = record { once = tt; few = refl; others = λ i h. tt; noted = λ i b q a. omega (arith, zeros_at i b) }
 
 module _ {order seen : List ℕ} {j : ℕ} (s : Seen order seen j) where
-  pub seen_more : j < length order → allAmong orderIds order ≡ true → (get_or seen (get_or order j 0) 0 ≡ 1 → ⊥) → Seen order (set seen (get_or order j 0) 1) (j + 1)
+  pub seen_more : j < length order → all_among order_ids order ≡ true → (get_or seen (get_or order j 0) 0 ≡ 1 → ⊥) → Seen order (set seen (get_or order j 0) 1) (j + 1)
   seen_more h a n =
       let i = get_or order j 0 in
-      let b = next-below order j a h in
+      let b = next_below order j a h in
       let f = s.few in
       record {
         once = subst Once (sym (take_more order j h)) (once_more (take j order) i s.once (s.others i n));
@@ -73,17 +73,17 @@ module _ {order seen : List ℕ} {j : ℕ} (s : Seen order seen j) where
             (s.others k (λ q. m (get_or-set_other seen i k 1 0 (λ e. n (ap (λ (x : ℕ). get_or seen x 0) (sym e) ∙ q)) ∙ q)))
             (λ e. m (ap (λ (x : ℕ). get_or (set seen i 1) x 0) (sym e) ∙ get_or-set_same seen i 1 0 (omega arith))));
         noted = λ k c q a.
-            let (d, e) = all-less (λ e. e ≡ k → ⊥) (take j order) i (subst (Away k) (take_more order j h) a) in
+            let (d, e) = all_less (λ e. e ≡ k → ⊥) (take j order) i (subst (Away k) (take_more order j h) a) in
             s.noted k c (sym (get_or-set_other seen i k 1 0 (λ p. e (sym p))) ∙ q) d;
       }
 
   -- an id was noted before
-  pub seen_twice : j < length order → allAmong orderIds order ≡ true → get_or seen (get_or order j 0) 0 ≡ 1 → (false ≡ true) ↔ Once order
-  seen_twice h a q = (λ e. absurd (true≢false (sym e)), λ o. absurd (s.noted (get_or order j 0) (next-below order j a h) q (once-at order j o h)))
+  pub seen_twice : j < length order → all_among order_ids order ≡ true → get_or seen (get_or order j 0) 0 ≡ 1 → (false ≡ true) ↔ Once order
+  seen_twice h a q = (λ e. absurd (true≢false (sym e)), λ o. absurd (s.noted (get_or order j 0) (next_below order j a h) q (once_at order j o h)))
 
   pub seen_all : length order ≤ j → (true ≡ true) ↔ Once order
   seen_all h = (λ e. subst Once (take_all j order h) s.once, λ o. refl)
 
 -- what the look told
-pub once-told : (order : List ℕ) {r : Bool} → (r ≡ true) ↔ Once order → r ≡ true → Once order
-once-told order f e = f.0 e
+pub once_told : (order : List ℕ) {r : Bool} → (r ≡ true) ↔ Once order → r ≡ true → Once order
+once_told order f e = f.0 e

@@ -18,9 +18,9 @@ plan_of counts totals given =
     record { head = λ i. head_of i (said_of given i (get_or counts i 0)) (get_or totals i 0); total = λ i. get_or totals i 0 }
 
 -- how many bytes the sections of an order list have
-abbrev pub roomOf : Plan → List ℕ → ℕ
-roomOf p [] = 0
-roomOf p (i ∷ order) = length (p.head i) + p.total i + roomOf p order
+abbrev pub room_of : Plan → List ℕ → ℕ
+room_of p [] = 0
+room_of p (i ∷ order) = length (p.head i) + p.total i + room_of p order
 
 -- the bytes of the sections of an order list, which stand from place `at` on: each one's head, what it has got of its items, and a gap for the others.
 -- Its next item's place is noted by its id

@@ -2,18 +2,18 @@
 use Rattle.std.specs.Prelude.{◌≡◌, Bool, true, false, cond, List, [], ◌∷◌, ◌++◌, ℕ}
 use Rattle.format.specs.Lists.{All}
 use Rattle.frames.specs.Ids.{sections, among}
-use Rattle.sections.specs.Section.{dataCount}
+use Rattle.sections.specs.Section.{data_count}
 
 -- an order list has at most 32 ids, of sections that hold items and of the data count section
-abbrev pub orderMost : ℕ
-orderMost = 32
+abbrev pub order_most : ℕ
+order_most = 32
 
-abbrev pub orderIds : List ℕ
-orderIds = sections ++ (dataCount ∷ [])
+abbrev pub order_ids : List ℕ
+order_ids = sections ++ (data_count ∷ [])
 
-abbrev pub allAmong : List ℕ → List ℕ → Bool
-allAmong ids [] = true
-allAmong ids (i ∷ order) = cond (among ids i) (allAmong ids order) false
+abbrev pub all_among : List ℕ → List ℕ → Bool
+all_among ids [] = true
+all_among ids (i ∷ order) = cond (among ids i) (all_among ids order) false
 
 -- an id that a list does not have, and a list that has none twice
 abbrev pub Away : ℕ → List ℕ → Type 0

@@ -15,11 +15,11 @@ abbrev pub ending : List ℕ → Given → Ending
 ending order given = record { order = order; given = given }
 
 -- Sections: id, size of the contents in bytes, contents
-abbrev pub withSize : List ℕ → List ℕ
-withSize contents = uleb (length contents) ++ contents
+abbrev pub with_size : List ℕ → List ℕ
+with_size contents = uleb (length contents) ++ contents
 
 abbrev pub section : ℕ → List ℕ → List ℕ
-section i contents = i ∷ withSize contents
+section i contents = i ∷ with_size contents
 
 -- Conventions, of several members: how many, as a u32, and then they
 abbrev pub vector : List (List ℕ) → List ℕ
@@ -29,16 +29,16 @@ vector items = uleb (length items) ++ joined items
 abbrev pub head_of : ℕ → ℕ → ℕ → List ℕ
 head_of i count total = i ∷ (uleb (length (uleb count) + total) ++ uleb count)
 
-abbrev pub dataCount : ℕ
-dataCount = 12
+abbrev pub data_count : ℕ
+data_count = 12
 
 -- the count that a section says: how many items it has or, of the data count section, the data count
 abbrev pub said_of : Given → ℕ → ℕ → ℕ
-said_of given i items = cond (eqb i dataCount) given.count items
+said_of given i items = cond (eqb i data_count) given.count items
 
 -- a section's items in order of adding; the data count section has the count alone
-abbrev pub contentsOf : Given → List Frame → ℕ → List ℕ
-contentsOf given fs i = cond (eqb i dataCount) (uleb given.count) (vector (items_of i fs))
+abbrev pub contents_of : Given → List Frame → ℕ → List ℕ
+contents_of given fs i = cond (eqb i data_count) (uleb given.count) (vector (items_of i fs))
 
-abbrev pub sectionOf : Given → List Frame → ℕ → List ℕ
-sectionOf given fs i = section i (contentsOf given fs i)
+abbrev pub section_of : Given → List Frame → ℕ → List ℕ
+section_of given fs i = section i (contents_of given fs i)

@@ -4,22 +4,22 @@ ghost use Rattle.format.specs.Lists.{prints};
 ghost use Rattle.format.specs.Runs.{run};
 ghost use Rattle.format.specs.Write.{Writes};
 ghost use Rattle.format.specs.declared.Written.TheVariants.{Length};
-ghost use Rattle.frames.specs.Frames.{frame, noFrames, framesOf};
-ghost use Rattle.frames.specs.Builder.{storeMost};
+ghost use Rattle.frames.specs.Frames.{frame, no_frames, frames_of};
+ghost use Rattle.frames.specs.Builder.{store_most};
 ghost use Rattle.frames.specs.Tally.{tally_of};
-ghost use Rattle.sections.specs.Section.{sectionOf};
-ghost use Rattle.sections.specs.Order.{orderIds, allAmong};
+ghost use Rattle.sections.specs.Section.{section_of};
+ghost use Rattle.sections.specs.Order.{order_ids, all_among};
 
 use crate::Given;
 use crate::section::{count_of, put_section};
 use frames::Tallies;
 
 pub fn put_each(frames: &[u8], order: &[u8], t: Tallies, given: Given, out: &mut [u8]) -> usize
-    requires order_value { allAmong orderIds order.now ≡ true }
-    requires t_value { (t ≡ tally_of (run frame frames.now)) × (noFrames (run frame frames.now) ≡ false) }
-    requires frames_len_bound { length frames.now ≤ storeMost }
-    requires order_in_bounds { length (prints (sectionOf given (framesOf frames.now)) order.now) ≤ length out.old }
-    ensures { Writes (prints (sectionOf given (framesOf frames.now)) order.now) out.old out.new (Length result) }
+    requires order_value { all_among order_ids order.now ≡ true }
+    requires t_value { (t ≡ tally_of (run frame frames.now)) × (no_frames (run frame frames.now) ≡ false) }
+    requires frames_len_bound { length frames.now ≤ store_most }
+    requires order_in_bounds { length (prints (section_of given (frames_of frames.now)) order.now) ≤ length out.old }
+    ensures { Writes (prints (section_of given (frames_of frames.now)) order.now) out.old out.new (Length result) }
 {
     let counts = t.counts;
     let totals = t.totals;

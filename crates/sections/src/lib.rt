@@ -8,11 +8,11 @@ ghost use Rattle.format.specs.Lists.{prints};
 ghost use Rattle.format.specs.Runs.{run};
 ghost use Rattle.format.specs.Write.{Writes};
 ghost use Rattle.format.specs.declared.Written.TheVariants.{Length};
-ghost use Rattle.frames.specs.Frames.{frame, noFrames, framesOf};
-ghost use Rattle.frames.specs.Builder.{storeMost};
+ghost use Rattle.frames.specs.Frames.{frame, no_frames, frames_of};
+ghost use Rattle.frames.specs.Builder.{store_most};
 ghost use Rattle.frames.specs.Tally.{tally_of};
-ghost use Rattle.sections.specs.Section.{sectionOf};
-ghost use Rattle.sections.specs.Order.{orderMost, orderIds, allAmong};
+ghost use Rattle.sections.specs.Section.{section_of};
+ghost use Rattle.sections.specs.Order.{order_most, order_ids, all_among};
 
 use each::put_each;
 use frames::Tallies;
@@ -27,11 +27,11 @@ pub struct Given {
 
 // How many bytes the sections of an order list have.
 pub fn sections_len(order: &[u8], t: Tallies, given: Given) -> usize
-    requires order_value { allAmong orderIds order.now ≡ true }
-    requires order_len_bound { length order.now ≤ orderMost }
-    requires by_index { (i : ℕ) → i < 16 → get_or t.totals i 0 ≤ storeMost }
-    ensures by_index_2 { (s : List ℕ) → t ≡ tally_of (run frame s) → result ≡ length (prints (sectionOf given (framesOf s)) order.now) }
-    ensures upper_bound { result ≤ orderMost * (storeMost + 21) }
+    requires order_value { all_among order_ids order.now ≡ true }
+    requires order_len_bound { length order.now ≤ order_most }
+    requires by_index { (i : ℕ) → i < 16 → get_or t.totals i 0 ≤ store_most }
+    ensures by_index_2 { (s : List ℕ) → t ≡ tally_of (run frame s) → result ≡ length (prints (section_of given (frames_of s)) order.now) }
+    ensures upper_bound { result ≤ order_most * (store_most + 21) }
 {
     let counts = t.counts;
     let totals = t.totals;
@@ -48,11 +48,11 @@ pub fn sections_len(order: &[u8], t: Tallies, given: Given) -> usize
 
 // One walk over the frames serves all sections, where no id is listed twice; for one section alone `put_each` is the quicker.
 pub fn put_sections(frames: &[u8], order: &[u8], t: Tallies, given: Given, out: &mut [u8]) -> usize
-    requires order_value { allAmong orderIds order.now ≡ true }
-    requires t_value { (t ≡ tally_of (run frame frames.now)) × (noFrames (run frame frames.now) ≡ false) }
-    requires frames_len_bound { length frames.now ≤ storeMost }
-    requires order_in_bounds { length (prints (sectionOf given (framesOf frames.now)) order.now) ≤ length out.old }
-    ensures { Writes (prints (sectionOf given (framesOf frames.now)) order.now) out.old out.new (Length result) }
+    requires order_value { all_among order_ids order.now ≡ true }
+    requires t_value { (t ≡ tally_of (run frame frames.now)) × (no_frames (run frame frames.now) ≡ false) }
+    requires frames_len_bound { length frames.now ≤ store_most }
+    requires order_in_bounds { length (prints (section_of given (frames_of frames.now)) order.now) ≤ length out.old }
+    ensures { Writes (prints (section_of given (frames_of frames.now)) order.now) out.old out.new (Length result) }
 {
     if 1 < order.len() && is_once(order) {
         return put_once(frames, order, t, given, out);

@@ -4,12 +4,12 @@ ghost use Rattle.format.specs.Lists.{prints};
 ghost use Rattle.format.specs.Runs.{run};
 ghost use Rattle.format.specs.Write.{Writes};
 ghost use Rattle.format.specs.declared.Written.TheVariants.{Length};
-ghost use Rattle.frames.specs.Frames.{frame, noFrames, framesOf};
-ghost use Rattle.frames.specs.Builder.{storeMost};
+ghost use Rattle.frames.specs.Frames.{frame, no_frames, frames_of};
+ghost use Rattle.frames.specs.Builder.{store_most};
 ghost use Rattle.frames.specs.Tally.{tally_of};
-ghost use Rattle.sections.specs.Section.{sectionOf};
-ghost use Rattle.sections.specs.Order.{orderIds, allAmong, Once};
-ghost use Rattle.sections.specs.Laid.{plan_of, roomOf, Headed};
+ghost use Rattle.sections.specs.Section.{section_of};
+ghost use Rattle.sections.specs.Order.{order_ids, all_among, Once};
+ghost use Rattle.sections.specs.Laid.{plan_of, room_of, Headed};
 
 use crate::Given;
 use crate::section::{count_of, put_head};
@@ -24,7 +24,7 @@ pub struct Heads {
 
 // Whether an order list has no id twice.
 pub fn is_once(order: &[u8]) -> bool
-    requires { allAmong orderIds order.now ≡ true }
+    requires { all_among order_ids order.now ≡ true }
     ensures { (result ≡ true) ↔ Once order.now }
 {
     let mut seen = [0usize; 16];
@@ -42,9 +42,9 @@ pub fn is_once(order: &[u8]) -> bool
 
 // The heads of the sections, with room for the items behind each.
 fn put_heads(order: &[u8], t: Tallies, given: Given, out: &mut [u8]) -> Heads
-    requires order_value { (allAmong orderIds order.now ≡ true) × Once order.now }
-    requires by_index { (i : ℕ) → i < 16 → get_or t.totals i 0 ≤ storeMost }
-    requires order_in_bounds { roomOf (plan_of t.counts t.totals given) order.now ≤ length out.old }
+    requires order_value { (all_among order_ids order.now ≡ true) × Once order.now }
+    requires by_index { (i : ℕ) → i < 16 → get_or t.totals i 0 ≤ store_most }
+    requires order_in_bounds { room_of (plan_of t.counts t.totals given) order.now ≤ length out.old }
     ensures { Headed (plan_of t.counts t.totals given) order.now out.old out.new result.places result.n }
 {
     let counts = t.counts;
@@ -69,11 +69,11 @@ fn put_heads(order: &[u8], t: Tallies, given: Given, out: &mut [u8]) -> Heads
 
 // Each item goes behind the last of its section.
 pub fn put_once(frames: &[u8], order: &[u8], t: Tallies, given: Given, out: &mut [u8]) -> usize
-    requires order_value { (allAmong orderIds order.now ≡ true) × Once order.now }
-    requires t_value { (t ≡ tally_of (run frame frames.now)) × (noFrames (run frame frames.now) ≡ false) }
-    requires frames_len_bound { length frames.now ≤ storeMost }
-    requires order_in_bounds { length (prints (sectionOf given (framesOf frames.now)) order.now) ≤ length out.old }
-    ensures { Writes (prints (sectionOf given (framesOf frames.now)) order.now) out.old out.new (Length result) }
+    requires order_value { (all_among order_ids order.now ≡ true) × Once order.now }
+    requires t_value { (t ≡ tally_of (run frame frames.now)) × (no_frames (run frame frames.now) ≡ false) }
+    requires frames_len_bound { length frames.now ≤ store_most }
+    requires order_in_bounds { length (prints (section_of given (frames_of frames.now)) order.now) ≤ length out.old }
+    ensures { Writes (prints (section_of given (frames_of frames.now)) order.now) out.old out.new (Length result) }
 {
     let h = put_heads(order, t, given, out);
     let n = h.n;

@@ -4,9 +4,9 @@ ghost use Rattle.format.specs.Runs.{run};
 ghost use Rattle.format.specs.Write.{Writes};
 ghost use Rattle.format.specs.declared.Written.TheVariants.{Length};
 ghost use Rattle.leb128.specs.Leb.{uleb};
-ghost use Rattle.frames.specs.Frames.{frame, noFrames};
-ghost use Rattle.frames.specs.Builder.{storeMost};
-ghost use Rattle.frames.specs.Tally.{itemBytes};
+ghost use Rattle.frames.specs.Frames.{frame, no_frames};
+ghost use Rattle.frames.specs.Builder.{store_most};
+ghost use Rattle.frames.specs.Tally.{item_bytes};
 ghost use Rattle.sections.specs.Section.{section, head_of, said_of};
 
 use crate::Given;
@@ -26,7 +26,7 @@ pub fn count_of(id: u8, items: usize, given: Given) -> usize
 
 // How many bytes a section has that says this count and has items of so many bytes.
 pub fn section_len(count: usize, total: usize) -> usize
-    requires { total ≤ storeMost }
+    requires { total ≤ store_most }
     ensures { ((i : ℕ) (items : List ℕ) → length items ≡ total → result ≡ length (section i (uleb count ++ items))) × (result ≤ total + 21) }
 {
     let size = leb128::size(false, count as u64) + total;
@@ -46,7 +46,7 @@ fn put_number(n: usize, out: &mut [u8]) -> usize
 
 // What stands before the items of a section.
 pub fn put_head(id: u8, count: usize, total: usize, out: &mut [u8]) -> usize
-    requires total_le_store_most { total ≤ storeMost }
+    requires total_le_store_most { total ≤ store_most }
     requires total_in_bounds { length (head_of id count total) ≤ length out.old }
     ensures { Writes (head_of id count total) out.old out.new (Length result) }
 {
@@ -57,10 +57,10 @@ pub fn put_head(id: u8, count: usize, total: usize, out: &mut [u8]) -> usize
 
 // The items of a section, of which there are so many bytes: the walk ends with the last of them.
 fn put_items(frames: &[u8], id: u8, total: usize, out: &mut [u8]) -> usize
-    requires frames_value { noFrames (run frame frames.now) ≡ false }
-    requires total_value { total ≡ length (itemBytes id frames.now) }
+    requires frames_value { no_frames (run frame frames.now) ≡ false }
+    requires total_value { total ≡ length (item_bytes id frames.now) }
     requires total_in_bounds { total ≤ length out.old }
-    ensures { Writes (itemBytes id frames.now) out.old out.new (Length result) }
+    ensures { Writes (item_bytes id frames.now) out.old out.new (Length result) }
 {
     let mut n: usize = 0;
     let mut at: usize = 0;
@@ -80,10 +80,10 @@ fn put_items(frames: &[u8], id: u8, total: usize, out: &mut [u8]) -> usize
 
 // A section, as the Rust's `encode_section` writes it behind its id.
 pub fn put_section(frames: &[u8], id: u8, count: usize, total: usize, out: &mut [u8]) -> usize
-    requires frames_value { noFrames (run frame frames.now) ≡ false }
-    requires total_value { (total ≡ length (itemBytes id frames.now)) × (total ≤ storeMost) }
-    requires frames_in_bounds { length (section id (uleb count ++ itemBytes id frames.now)) ≤ length out.old }
-    ensures { Writes (section id (uleb count ++ itemBytes id frames.now)) out.old out.new (Length result) }
+    requires frames_value { no_frames (run frame frames.now) ≡ false }
+    requires total_value { (total ≡ length (item_bytes id frames.now)) × (total ≤ store_most) }
+    requires frames_in_bounds { length (section id (uleb count ++ item_bytes id frames.now)) ≤ length out.old }
+    ensures { Writes (section id (uleb count ++ item_bytes id frames.now)) out.old out.new (Length result) }
 {
     let n = put_head(id, count, total, out);
     n + put_items(frames, id, total, &mut out[n..])

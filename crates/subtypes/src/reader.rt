@@ -2,14 +2,14 @@
 ghost use Rattle.format.specs.Count.{silent};
 ghost use Rattle.format.specs.Walk.{Walks};
 ghost use Rattle.leb128.specs.Formats.{u32};
-ghost use Rattle.subtypes.specs.SubType.{describedWords, describedBytes, subWords, subBytes};
+ghost use Rattle.subtypes.specs.SubType.{described_words, described_bytes, sub_words, sub_bytes};
 
 use composites::read_inner;
 use format::{Done, Walk};
 use prefixes::{read_option, read_shared, read_supers};
 
 fn read_described(b: &[u8], at: usize, out: &mut [u32], s: Done) -> Walk
-    ensures { Walks describedBytes describedWords.print silent b.now at out.old s out.new result }
+    ensures { Walks described_bytes described_words.print silent b.now at out.old s out.new result }
 {
     let Walk::Got(p, t) = read_option(0x4C, b, at, out, s) else {
         return Walk::No;
@@ -21,7 +21,7 @@ fn read_described(b: &[u8], at: usize, out: &mut [u32], s: Done) -> Walk
 }
 
 pub fn read_sub(b: &[u8], at: usize, out: &mut [u32], s: Done) -> Walk
-    ensures { Walks subBytes subWords.print silent b.now at out.old s out.new result }
+    ensures { Walks sub_bytes sub_words.print silent b.now at out.old s out.new result }
 {
     let Walk::Got(p, t) = read_supers(b, at, out, s) else {
         return Walk::No;

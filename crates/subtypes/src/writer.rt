@@ -2,14 +2,14 @@
 ghost use Rattle.format.specs.Count.{silent};
 ghost use Rattle.format.specs.Walk.{Walks};
 ghost use Rattle.leb128.specs.Formats.{u32};
-ghost use Rattle.subtypes.specs.SubType.{describedWords, describedBytes, subWords, subBytes};
+ghost use Rattle.subtypes.specs.SubType.{described_words, described_bytes, sub_words, sub_bytes};
 
 use composites::walk_inner;
 use format::{Done, Walk};
 use prefixes::{walk_option, walk_shared, walk_supers};
 
 fn walk_described(words: &[u32], at: usize, out: &mut [u8], s: Done) -> Walk
-    ensures { Walks describedWords describedBytes.print silent words.now at out.old s out.new result }
+    ensures { Walks described_words described_bytes.print silent words.now at out.old s out.new result }
 {
     let Walk::Got(p, t) = walk_option(0x4C, words, at, out, s) else {
         return Walk::No;
@@ -21,7 +21,7 @@ fn walk_described(words: &[u32], at: usize, out: &mut [u8], s: Done) -> Walk
 }
 
 pub fn walk_sub(words: &[u32], at: usize, out: &mut [u8], s: Done) -> Walk
-    ensures { Walks subWords subBytes.print silent words.now at out.old s out.new result }
+    ensures { Walks sub_words sub_bytes.print silent words.now at out.old s out.new result }
 {
     let Walk::Got(p, t) = walk_supers(words, at, out, s) else {
         return Walk::No;

@@ -14,7 +14,7 @@ use Rattle.words.specs.Words.{unused}
 use Rattle.parts.specs.Text.{expression}
 use Rattle.parts.specs.Both.{both, behind}
 use Rattle.parts.specs.Chosen.{chosen}
-use Rattle.tables.specs.TableType.{tableWords, tableBytes, table-agree, table-heads}
+use Rattle.tables.specs.TableType.{table_words, table_bytes, table_agree, table_heads}
 use Rattle.tables.specs.declared.TableType.{TableType}
 
 -- without an initial value, or with one
@@ -26,32 +26,32 @@ abbrev pub Table : Type 0 → Type 0
 Table S = (init : Bool) × TableOf init S
 
 -- the init span is 0 0 where the flag is 0
-abbrev pub bareWords : Format TableType
-bareWords = iso (pair tableWords unused) (λ t. (t, tt)) (λ p. p.0) (λ t. refl) (λ p. refl)
+abbrev pub bare_words : Format TableType
+bare_words = iso (pair table_words unused) (λ t. (t, tt)) (λ p. p.0) (λ t. refl) (λ p. refl)
 
-pub bare-agree : Agree bareWords tableBytes
-bare-agree t = (λ h. (table-agree t).0 h.0, λ h. ((table-agree t).1 h, tt))
+pub bare_agree : Agree bare_words table_bytes
+bare_agree t = (λ h. (table_agree t).0 h.0, λ h. ((table_agree t).1 h, tt))
 
-abbrev pub tableType : Section TableType TableType
-tableType = textless tableWords tableBytes table-agree
+abbrev pub table_type : Section TableType TableType
+table_type = textless table_words table_bytes table_agree
 
 -- in bytes 40 00, the type and the expression; or the type alone
 abbrev pub form : (init : Bool) → Section (TableOf init Span) (TableOf init (List ℕ))
-form false = textless bareWords tableBytes bare-agree
-form true = behind 0x40 (behind 0x00 (both tableType expression))
+form false = textless bare_words table_bytes bare_agree
+form true = behind 0x40 (behind 0x00 (both table_type expression))
 
 -- 40 begins no table type
-abbrev pub hasInit : List ℕ → Bool
-hasInit [] = false
-hasInit (x ∷ s) = is 0x40 x
+abbrev pub has_init : List ℕ → Bool
+has_init [] = false
+has_init (x ∷ s) = is 0x40 x
 
-pub init-told : (init : Bool) (x : TableOf init (List ℕ)) (r : List ℕ) → (form init).bytes.Ok x → hasInit ((form init).bytes.print x ++ r) ≡ init
-init-told false x r ok = let (y, t, e, n) = table-heads x ok in ap (λ (l : List ℕ). hasInit (l ++ r)) e ∙ n
-init-told true x r ok = refl
+pub init_told : (init : Bool) (x : TableOf init (List ℕ)) (r : List ℕ) → (form init).bytes.Ok x → has_init ((form init).bytes.print x ++ r) ≡ init
+init_told false x r ok = let (y, t, e, n) = table_heads x ok in ap (λ (l : List ℕ). has_init (l ++ r)) e ∙ n
+init_told true x r ok = refl
 
 -- behind the 4, the init flag and what it says
 abbrev pub bytes : Format (Table (List ℕ))
-bytes = one hasInit (λ i. (form i).bytes) init-told
+bytes = one has_init (λ i. (form i).bytes) init_told
 
-abbrev pub tableSection : Section (Table Span) (Table (List ℕ))
-tableSection = chosen flag (λ i. tt) form bytes (λ x. (λ h. h, λ h. h)) (λ x. refl)
+abbrev pub table_section : Section (Table Span) (Table (List ℕ))
+table_section = chosen flag (λ i. tt) form bytes (λ x. (λ h. h, λ h. h)) (λ x. refl)

@@ -5,64 +5,64 @@ use Rattle.std.proofs.Common.{arith}
 use Rattle.format.specs.Count.{silent}
 use Rattle.format.specs.Format.{Format}
 use Rattle.format.specs.Combine.{pair, iso}
-use Rattle.format.specs.Alternatives.{Heads, is, heads-pair, heads-iso}
-use Rattle.format.specs.Agree.{Agree, pair-agree}
+use Rattle.format.specs.Alternatives.{Heads, is, heads_pair, heads_iso}
+use Rattle.format.specs.Agree.{Agree, pair_agree}
 use Rattle.format.specs.Sequence.{Joins, joins}
-use Rattle.types.specs.Words.{refWords}
-use Rattle.types.specs.Bytes.{refBytes, heads-ref, byte-not}
-use Rattle.types.specs.Agree.{ref-agree}
+use Rattle.types.specs.Words.{ref_words}
+use Rattle.types.specs.Bytes.{ref_bytes, heads_ref, byte_not}
+use Rattle.types.specs.Agree.{ref_agree}
 use Rattle.types.specs.declared.RefType.{RefType}
-use Rattle.limits.specs.Limits.{Limits, limitsWords, limitsBytes, limits-agree}
+use Rattle.limits.specs.Limits.{Limits, limits_words, limits_bytes, limits_agree}
 use Rattle.tables.specs.declared.TableType.{TableType}
 use Rattle.tables.specs.declared.MemoryType.{MemoryType}
 
 -- ---- table types
 
-abbrev pub tableTo : TableType → RefType × Limits
-tableTo t = (t.element_type, record { wide = t.table64; shared = t.shared; minimum = t.minimum; maximum = t.maximum })
+abbrev pub table_to : TableType → RefType × Limits
+table_to t = (t.element_type, record { wide = t.table64; shared = t.shared; minimum = t.minimum; maximum = t.maximum })
 
 abbrev pub table_of : RefType × Limits → TableType
 table_of p = record { element_type = p.0; table64 = p.1.wide; minimum = p.1.minimum; maximum = p.1.maximum; shared = p.1.shared }
 
-abbrev pub tableType : Format RefType → Format Limits → Format TableType
-tableType R L = iso (pair R L) tableTo table_of (λ t. refl) (λ p. refl)
+abbrev pub table_type : Format RefType → Format Limits → Format TableType
+table_type R L = iso (pair R L) table_to table_of (λ t. refl) (λ p. refl)
 
-abbrev pub tableWords : Format TableType
-tableWords = tableType refWords limitsWords
+abbrev pub table_words : Format TableType
+table_words = table_type ref_words limits_words
 
-abbrev pub tableBytes : Format TableType
-tableBytes = tableType refBytes limitsBytes
+abbrev pub table_bytes : Format TableType
+table_bytes = table_type ref_bytes limits_bytes
 
-pub table-agree : Agree tableWords tableBytes
-table-agree t = pair-agree refWords refBytes limitsWords limitsBytes ref-agree limits-agree (tableTo t)
+pub table_agree : Agree table_words table_bytes
+table_agree t = pair_agree ref_words ref_bytes limits_words limits_bytes ref_agree limits_agree (table_to t)
 
 -- 40 begins none: it says that an initial value follows
-pub table-heads : Heads tableBytes (is 0x40) false
-table-heads =
-    heads-iso (pair refBytes limitsBytes) tableTo (is 0x40) false
-    (heads-pair refBytes limitsBytes (is 0x40) false (heads-ref (is 0x40) false refl refl refl (byte-not 0x40 (omega arith))))
+pub table_heads : Heads table_bytes (is 0x40) false
+table_heads =
+    heads_iso (pair ref_bytes limits_bytes) table_to (is 0x40) false
+    (heads_pair ref_bytes limits_bytes (is 0x40) false (heads_ref (is 0x40) false refl refl refl (byte_not 0x40 (omega arith))))
 
 -- it is walked by walking the two, one behind the other
-abbrev pub table-joins : (R R' : Format RefType) (L L' : Format Limits)
-    → Joins R.parse R'.print silent L.parse L'.print silent (tableType R L).parse (tableType R' L').print silent
-table-joins R R' L L' = joins R R'.print L L'.print (tableType R L) (tableType R' L').print table_of (λ s. refl) (λ a b. refl)
+abbrev pub table_joins : (R R' : Format RefType) (L L' : Format Limits)
+    → Joins R.parse R'.print silent L.parse L'.print silent (table_type R L).parse (table_type R' L').print silent
+table_joins R R' L L' = joins R R'.print L L'.print (table_type R L) (table_type R' L').print table_of (λ s. refl) (λ a b. refl)
 
 -- ---- memory types
 
-abbrev pub memoryTo : MemoryType → Limits
-memoryTo m = record { wide = m.memory64; shared = m.shared; minimum = m.minimum; maximum = m.maximum }
+abbrev pub memory_to : MemoryType → Limits
+memory_to m = record { wide = m.memory64; shared = m.shared; minimum = m.minimum; maximum = m.maximum }
 
-abbrev pub memoryOf : Limits → MemoryType
-memoryOf l = record { minimum = l.minimum; maximum = l.maximum; memory64 = l.wide; shared = l.shared }
+abbrev pub memory_of : Limits → MemoryType
+memory_of l = record { minimum = l.minimum; maximum = l.maximum; memory64 = l.wide; shared = l.shared }
 
-abbrev pub memoryType : Format Limits → Format MemoryType
-memoryType L = iso L memoryTo memoryOf (λ m. refl) (λ l. refl)
+abbrev pub memory_type : Format Limits → Format MemoryType
+memory_type L = iso L memory_to memory_of (λ m. refl) (λ l. refl)
 
-abbrev pub memoryWords : Format MemoryType
-memoryWords = memoryType limitsWords
+abbrev pub memory_words : Format MemoryType
+memory_words = memory_type limits_words
 
-abbrev pub memoryBytes : Format MemoryType
-memoryBytes = memoryType limitsBytes
+abbrev pub memory_bytes : Format MemoryType
+memory_bytes = memory_type limits_bytes
 
-pub memory-agree : Agree memoryWords memoryBytes
-memory-agree m = limits-agree (memoryTo m)
+pub memory_agree : Agree memory_words memory_bytes
+memory_agree m = limits_agree (memory_to m)

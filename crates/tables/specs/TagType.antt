@@ -11,23 +11,23 @@ use Rattle.tables.specs.declared.TagKind.{TagKind}
 use Rattle.tables.specs.declared.TagKind.TheVariants.{Exception}
 use Rattle.tables.specs.declared.TagType.{TagType}
 
-abbrev pub exceptionOf : ℕ → TagType
-exceptionOf x = record { kind = Exception; func_type_idx = x }
+abbrev pub exception_of : ℕ → TagType
+exception_of x = record { kind = Exception; func_type_idx = x }
 
-pub exception-only : (t : TagType) → exceptionOf t.func_type_idx ≡ t
-exception-only t = go t.kind
+pub exception_only : (t : TagType) → exception_of t.func_type_idx ≡ t
+exception_only t = go t.kind
   where
-    go : (k : TagKind) → exceptionOf t.func_type_idx ≡ record { kind = k; func_type_idx = t.func_type_idx }
+    go : (k : TagKind) → exception_of t.func_type_idx ≡ record { kind = k; func_type_idx = t.func_type_idx }
     go = elim [ Exception ↦ refl ]
 
-abbrev pub tagType : Format ℕ → Format TagType
-tagType F = iso F (λ t. t.func_type_idx) exceptionOf exception-only (λ x. refl)
+abbrev pub tag_type : Format ℕ → Format TagType
+tag_type F = iso F (λ t. t.func_type_idx) exception_of exception_only (λ x. refl)
 
-abbrev pub tagWords : Format TagType
-tagWords = tagType word
+abbrev pub tag_words : Format TagType
+tag_words = tag_type word
 
-abbrev pub tagBytes : Format TagType
-tagBytes = tagType (tag 0x00 u32)
+abbrev pub tag_bytes : Format TagType
+tag_bytes = tag_type (tag 0x00 u32)
 
-pub tag-agree : Agree tagWords tagBytes
-tag-agree t = (λ h. h, λ h. h)
+pub tag_agree : Agree tag_words tag_bytes
+tag_agree t = (λ h. h, λ h. h)

@@ -2,14 +2,14 @@
 ghost use Rattle.std.specs.Prelude.{◌≤◌, length};
 ghost use Rattle.format.specs.Count.{silent};
 ghost use Rattle.format.specs.Walk.{Walks};
-ghost use Rattle.texts.specs.Judge.{textMost};
+ghost use Rattle.texts.specs.Judge.{text_most};
 ghost use Rattle.parts.specs.Text.{expression};
 ghost use Rattle.parts.specs.Both.{both};
 ghost use Rattle.parts.specs.Reading.{Reading};
-ghost use Rattle.tables.specs.TableType.{tableWords, tableBytes, memoryWords, memoryBytes};
-ghost use Rattle.tables.specs.GlobalType.{globalWords, global_bytes};
-ghost use Rattle.tables.specs.TagType.{tagWords, tagBytes};
-ghost use Rattle.tables.specs.Table.{bareWords, tableType, tableSection};
+ghost use Rattle.tables.specs.TableType.{table_words, table_bytes, memory_words, memory_bytes};
+ghost use Rattle.tables.specs.GlobalType.{global_words, global_bytes};
+ghost use Rattle.tables.specs.TagType.{tag_words, tag_bytes};
+ghost use Rattle.tables.specs.Table.{bare_words, table_type, table_section};
 
 use format::{Done, Walk, append_word};
 use limits::read_limits;
@@ -20,13 +20,13 @@ use texts::{Span, append_span};
 use vals::{read_mutable, read_val};
 
 pub fn read_memory_type(b: &[u8], at: usize, out: &mut [u32], s: Done) -> Walk
-    ensures { Walks memoryBytes memoryWords.print silent b.now at out.old s out.new result }
+    ensures { Walks memory_bytes memory_words.print silent b.now at out.old s out.new result }
 {
     read_limits(b, at, out, s)
 }
 
 pub fn read_table_type(b: &[u8], at: usize, out: &mut [u32], s: Done) -> Walk
-    ensures { Walks tableBytes tableWords.print silent b.now at out.old s out.new result }
+    ensures { Walks table_bytes table_words.print silent b.now at out.old s out.new result }
 {
     let Walk::Got(p, t) = read_ref(b, at, out, s) else {
         return Walk::No;
@@ -35,7 +35,7 @@ pub fn read_table_type(b: &[u8], at: usize, out: &mut [u32], s: Done) -> Walk
 }
 
 pub fn read_global_type(b: &[u8], at: usize, out: &mut [u32], s: Done) -> Walk
-    ensures { Walks global_bytes globalWords.print silent b.now at out.old s out.new result }
+    ensures { Walks global_bytes global_words.print silent b.now at out.old s out.new result }
 {
     let Walk::Got(p, t) = read_val(b, at, out, s) else {
         return Walk::No;
@@ -45,7 +45,7 @@ pub fn read_global_type(b: &[u8], at: usize, out: &mut [u32], s: Done) -> Walk
 
 // 00 says that it is an exception.
 pub fn read_tag_type(b: &[u8], at: usize, out: &mut [u32], s: Done) -> Walk
-    ensures { Walks tagBytes tagWords.print silent b.now at out.old s out.new result }
+    ensures { Walks tag_bytes tag_words.print silent b.now at out.old s out.new result }
 {
     if b.len() <= at {
         return Walk::No;
@@ -61,7 +61,7 @@ pub fn read_tag_type(b: &[u8], at: usize, out: &mut [u32], s: Done) -> Walk
 
 // A table type, and two unused words behind its own.
 fn read_bare(b: &[u8], at: usize, out: &mut [u32], s: Done) -> Walk
-    ensures { Walks tableBytes bareWords.print silent b.now at out.old s out.new result }
+    ensures { Walks table_bytes bare_words.print silent b.now at out.old s out.new result }
 {
     let Walk::Got(p, t) = read_table_type(b, at, out, s) else {
         return Walk::No;
@@ -72,8 +72,8 @@ fn read_bare(b: &[u8], at: usize, out: &mut [u32], s: Done) -> Walk
 
 // A table type, and the expression of its initial value.
 fn read_init(b: &[u8], at: usize, out: &mut [u32], s: Done) -> Walk
-    requires { length b.now ≤ textMost }
-    ensures { Reading (both tableType expression) b.now at out.old s out.new result }
+    requires { length b.now ≤ text_most }
+    ensures { Reading (both table_type expression) b.now at out.old s out.new result }
 {
     let Walk::Got(p, t) = read_table_type(b, at, out, s) else {
         return Walk::No;
@@ -83,8 +83,8 @@ fn read_init(b: &[u8], at: usize, out: &mut [u32], s: Done) -> Walk
 
 // Reads the item at a place and appends the words behind the 4.
 pub fn walk_bytes(b: &[u8], at: usize, out: &mut [u32], s: Done) -> Walk
-    requires { length b.now ≤ textMost }
-    ensures { Reading tableSection b.now at out.old s out.new result }
+    requires { length b.now ≤ text_most }
+    ensures { Reading table_section b.now at out.old s out.new result }
 {
     if b.len() <= at {
         return Walk::No;

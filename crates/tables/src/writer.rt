@@ -3,10 +3,10 @@ ghost use Rattle.std.specs.Prelude.{true};
 ghost use Rattle.format.specs.Count.{silent};
 ghost use Rattle.format.specs.Walk.{Walks};
 ghost use Rattle.parts.specs.Writing.{Writing};
-ghost use Rattle.tables.specs.TableType.{tableWords, tableBytes, memoryWords, memoryBytes};
-ghost use Rattle.tables.specs.GlobalType.{globalWords, global_bytes};
-ghost use Rattle.tables.specs.TagType.{tagWords, tagBytes};
-ghost use Rattle.tables.specs.Table.{bareWords, form, tableSection};
+ghost use Rattle.tables.specs.TableType.{table_words, table_bytes, memory_words, memory_bytes};
+ghost use Rattle.tables.specs.GlobalType.{global_words, global_bytes};
+ghost use Rattle.tables.specs.TagType.{tag_words, tag_bytes};
+ghost use Rattle.tables.specs.Table.{bare_words, form, table_section};
 
 use format::{Done, Walk, append_byte};
 use limits::walk_limits;
@@ -17,13 +17,13 @@ use vals::{walk_mutable, walk_val};
 use words::walk_unused;
 
 pub fn walk_memory_type(words: &[u32], at: usize, out: &mut [u8], s: Done) -> Walk
-    ensures { Walks memoryWords memoryBytes.print silent words.now at out.old s out.new result }
+    ensures { Walks memory_words memory_bytes.print silent words.now at out.old s out.new result }
 {
     walk_limits(words, at, out, s)
 }
 
 pub fn walk_table_type(words: &[u32], at: usize, out: &mut [u8], s: Done) -> Walk
-    ensures { Walks tableWords tableBytes.print silent words.now at out.old s out.new result }
+    ensures { Walks table_words table_bytes.print silent words.now at out.old s out.new result }
 {
     let Walk::Got(p, t) = walk_ref(words, at, out, s) else {
         return Walk::No;
@@ -32,7 +32,7 @@ pub fn walk_table_type(words: &[u32], at: usize, out: &mut [u8], s: Done) -> Wal
 }
 
 pub fn walk_global_type(words: &[u32], at: usize, out: &mut [u8], s: Done) -> Walk
-    ensures { Walks globalWords global_bytes.print silent words.now at out.old s out.new result }
+    ensures { Walks global_words global_bytes.print silent words.now at out.old s out.new result }
 {
     let Walk::Got(p, t) = walk_val(words, at, out, s) else {
         return Walk::No;
@@ -42,7 +42,7 @@ pub fn walk_global_type(words: &[u32], at: usize, out: &mut [u8], s: Done) -> Wa
 
 // 00 says that it is an exception.
 pub fn walk_tag_type(words: &[u32], at: usize, out: &mut [u8], s: Done) -> Walk
-    ensures { Walks tagWords tagBytes.print silent words.now at out.old s out.new result }
+    ensures { Walks tag_words tag_bytes.print silent words.now at out.old s out.new result }
 {
     if words.len() <= at {
         return Walk::No;
@@ -53,7 +53,7 @@ pub fn walk_tag_type(words: &[u32], at: usize, out: &mut [u8], s: Done) -> Walk
 
 // A table type, and the two unused words of a table without an initial value.
 fn walk_bare(words: &[u32], at: usize, out: &mut [u8], s: Done) -> Walk
-    ensures { Walks bareWords tableBytes.print silent words.now at out.old s out.new result }
+    ensures { Walks bare_words table_bytes.print silent words.now at out.old s out.new result }
 {
     let Walk::Got(p, t) = walk_table_type(words, at, out, s) else {
         return Walk::No;
@@ -75,7 +75,7 @@ fn walk_init(words: &[u32], at: usize, text: &[u8], out: &mut [u8], s: Done) -> 
 
 // Reads the words behind the 4 and appends the item.
 pub fn walk_words(words: &[u32], at: usize, text: &[u8], out: &mut [u8], s: Done) -> Walk
-    ensures { Writing tableSection text.now words.now at out.old s out.new result }
+    ensures { Writing table_section text.now words.now at out.old s out.new result }
 {
     if words.len() <= at {
         return Walk::No;

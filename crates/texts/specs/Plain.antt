@@ -6,11 +6,11 @@ use Rattle.std.proofs.Math.Bool.{true, false}
 use mathlib.Core.List.{List, [], ◌∷◌}
 use Rattle.std.proofs.Common.{arith}
 use Rattle.format.specs.Lists.{All}
-use Rattle.format.specs.Count.{noRefusal}
+use Rattle.format.specs.Count.{no_refusal}
 use Rattle.plain.specs.Plain.{IsPlain}
-use Rattle.names.specs.Name.{isName}
-use Rattle.names.specs.Plain.{plain-name, plain-part}
-use Rattle.texts.specs.Text.{Kind, named, isWithin, slice_of, past_of, refusalOf, lowestOf}
+use Rattle.names.specs.Name.{is_name}
+use Rattle.names.specs.Plain.{plain_name, plain_part}
+use Rattle.texts.specs.Text.{Kind, named, is_within, slice_of, past_of, refusal_of, lowest_of}
 use Rattle.texts.specs.declared.Span.{Span}
 
 -- texts that are all names
@@ -18,35 +18,35 @@ abbrev pub Names : List (Kind × Span) → Type 0
 Names l = All (λ (x : Kind × Span). x.0 ≡ named) l
 
 module _ (t : List ℕ) (p : IsPlain t) where
-  held-name : (at : Span) → isName (slice_of t at) ≡ true
+  held_name : (at : Span) → is_name (slice_of t at) ≡ true
   unfolding slice_of
-  held-name at = go (isWithin t at)
+  held_name at = go (is_within t at)
     where
-      go : (c : Bool) → isName (cond c (take at.len (drop at.start t)) []) ≡ true
-      go true = plain-part t at.start at.len p
-      go false = plain-name [] (λ k l m. absurd (omega arith))
+      go : (c : Bool) → is_name (cond c (take at.len (drop at.start t)) []) ≡ true
+      go true = plain_part t at.start at.len p
+      go false = plain_name [] (λ k l m. absurd (omega arith))
 
   -- it draws 3 or nothing
   abbrev Only : ℕ → Type 0
-  Only n = (n ≡ 3) ⊎ (n ≡ noRefusal)
+  Only n = (n ≡ 3) ⊎ (n ≡ no_refusal)
 
-  only-min : (a b : ℕ) → Only a → Only b → Only (min a b)
-  only-min a b (inl e) k = inl (three k)
+  only_min : (a b : ℕ) → Only a → Only b → Only (min a b)
+  only_min a b (inl e) k = inl (three k)
     where
       three : Only b → min a b ≡ 3
       three (inl f) = omega arith
       three (inr f) = omega arith
-  only-min a b (inr e) (inl f) = inl (omega arith)
-  only-min a b (inr e) (inr f) = inr (omega arith)
+  only_min a b (inr e) (inl f) = inl (omega arith)
+  only_min a b (inr e) (inr f) = inr (omega arith)
 
-  name-only : (at : Span) → Only (refusalOf t named at)
+  name_only : (at : Span) → Only (refusal_of t named at)
   unfolding past_of
-  name-only at = rw (held-name at) (go (isWithin t at))
+  name_only at = rw (held_name at) (go (is_within t at))
     where
-      go : (c : Bool) → Only (min (cond c noRefusal 3) noRefusal)
+      go : (c : Bool) → Only (min (cond c no_refusal 3) no_refusal)
       go true = inr refl
       go false = inl refl
 
-  pub plain-only : (l : List (Kind × Span)) → Names l → Only (lowestOf t l)
-  plain-only [] h = inr refl
-  plain-only ((k, at) ∷ l) h = only-min (refusalOf t k at) (lowestOf t l) (rw h.0 (name-only at)) (plain-only l h.1)
+  pub plain_only : (l : List (Kind × Span)) → Names l → Only (lowest_of t l)
+  plain_only [] h = inr refl
+  plain_only ((k, at) ∷ l) h = only_min (refusal_of t k at) (lowest_of t l) (rw h.0 (name_only at)) (plain_only l h.1)

@@ -9,7 +9,7 @@ use Rattle.format.specs.Basic.{tag}
 use Rattle.format.specs.Combine.{guard}
 use Rattle.texts.specs.Text.{Kind}
 use Rattle.texts.specs.Allowed.{Allowed}
-use Rattle.texts.specs.Judge.{Records, wordsMost, textMost}
+use Rattle.texts.specs.Judge.{Records, words_most, text_most}
 use Rattle.texts.specs.declared.Span.{Span}
 
 pub record Section (A B : Type 0) : Type 1 where
@@ -23,11 +23,11 @@ pub record Section (A B : Type 0) : Type 1 where
   -- resolved there, it gives the item back
   pub located : (q r : List ℕ) (x : B) → bytes.Ok x → resolve (q ++ (bytes.print x ++ r)) (locate (length q) x) ≡ x
   -- it can be printed, and its texts are allowed
-  pub locate-ok : (q r : List ℕ) (x : B) → bytes.Ok x → length (q ++ (bytes.print x ++ r)) ≤ textMost → words.Ok (locate (length q) x)
-  pub locate-texts : (q r : List ℕ) (x : B) → bytes.Ok x → All (Allowed (q ++ (bytes.print x ++ r))) (texts (locate (length q) x))
+  pub locate_ok : (q r : List ℕ) (x : B) → bytes.Ok x → length (q ++ (bytes.print x ++ r)) ≤ text_most → words.Ok (locate (length q) x)
+  pub locate_texts : (q r : List ℕ) (x : B) → bytes.Ok x → All (Allowed (q ++ (bytes.print x ++ r))) (texts (locate (length q) x))
   -- a record whose texts are allowed has an item, and the record of that is of as many words
-  pub resolve-ok : (t : List ℕ) (a : A) → words.Ok a → All (Allowed t) (texts a) → bytes.Ok (resolve t a)
-  pub same-words : (t : List ℕ) (a : A) (n : ℕ) → length (words.print (locate n (resolve t a))) ≡ length (words.print a)
+  pub resolve_ok : (t : List ℕ) (a : A) → words.Ok a → All (Allowed t) (texts a) → bytes.Ok (resolve t a)
+  pub same_words : (t : List ℕ) (a : A) (n : ℕ) → length (words.print (locate n (resolve t a))) ≡ length (words.print a)
 
 -- a section whose records have no texts: its items are the same values
 abbrev pub textless : {A : Type 0} (W F : Format A) → Agree W F → Section A A
@@ -39,10 +39,10 @@ textless W F same =
       resolve = λ t a. a;
       locate = λ n a. a;
       located = λ q r x ok. refl;
-      locate-ok = λ q r x ok h. (same x).1 ok;
-      locate-texts = λ q r x ok. tt;
-      resolve-ok = λ t a ok h. (same a).0 ok;
-      same-words = λ t a n. refl;
+      locate_ok = λ q r x ok h. (same x).1 ok;
+      locate_texts = λ q r x ok. tt;
+      resolve_ok = λ t a ok h. (same a).0 ok;
+      same_words = λ t a n. refl;
     }
 
 -- behind the section's id, a record's first word
@@ -55,20 +55,20 @@ tagged k S =
       resolve = S.resolve;
       locate = S.locate;
       located = S.located;
-      locate-ok = S.locate-ok;
-      locate-texts = S.locate-texts;
-      resolve-ok = S.resolve-ok;
-      same-words = λ t a n. ap suc (S.same-words t a n);
+      locate_ok = S.locate_ok;
+      locate_texts = S.locate_texts;
+      resolve_ok = S.resolve_ok;
+      same_words = λ t a n. ap suc (S.same_words t a n);
     }
 
 module _ {A B : Type 0} (S : Section A B) where
   -- the words that reading writes of an item at the front of the bytes
-  abbrev pub readWords : B → List ℕ
-  readWords x = S.words.print (S.locate 0 x)
+  abbrev pub read_words : B → List ℕ
+  read_words x = S.words.print (S.locate 0 x)
 
   -- no record has an item that needs more than 4,096 of them
   abbrev pub readable : Format B
-  readable = guard S.bytes (λ x. leb (length (readWords x)) wordsMost)
+  readable = guard S.bytes (λ x. leb (length (read_words x)) words_most)
 
 -- its records are some of R's: those that `into` gives
 pub record Among {A B C : Type 0} (S : Section A B) (R : Records C) : Type 0 where

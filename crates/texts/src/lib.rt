@@ -5,7 +5,7 @@ ghost use Rattle.std.specs.Prelude.{◌≡◌, cond, length};
 ghost use Rattle.format.specs.Count.{Adds, lowered};
 ghost use Rattle.leb128.specs.Formats.{u32};
 ghost use Rattle.format.specs.Sized.{sized};
-ghost use Rattle.texts.specs.Text.{isWithin, slice_of, isKind, notKind, past_of, refusalOf, named, constant, plain};
+ghost use Rattle.texts.specs.Text.{is_within, slice_of, is_kind, not_kind, past_of, refusal_of, named, constant, plain};
 
 use format::{Done, append_run, low, lower};
 use numbers::append_u32;
@@ -27,7 +27,7 @@ pub enum TextAt {
 
 // Whether a span ends within the text.
 fn is_within(text: &[u8], at: Span) -> bool
-    ensures { result ≡ isWithin text.now at }
+    ensures { result ≡ is_within text.now at }
 {
     at.start as usize + at.len as usize <= text.len()
 }
@@ -56,7 +56,7 @@ fn append_slice(text: &[u8], at: Span, out: &mut [u8], s: Done) -> Done
 
 // Data: its length, and its bytes.
 pub fn append_data(text: &[u8], at: Span, out: &mut [u8], s: Done) -> Done
-    ensures { Adds ((sized u32).print (slice_of text.now at)) (refusalOf text.now plain at) out.old s out.new result }
+    ensures { Adds ((sized u32).print (slice_of text.now at)) (refusal_of text.now plain at) out.old s out.new result }
 {
     let t = append_u32(held(text, at), out, s);
     append_slice(text, at, out, t)
@@ -64,7 +64,7 @@ pub fn append_data(text: &[u8], at: Span, out: &mut [u8], s: Done) -> Done
 
 // Whether a span holds a name, or an expression. Where it ends past the text it holds no bytes, which are a name and no expression.
 fn is_kind(name: bool, text: &[u8], at: Span) -> bool
-    ensures { result ≡ isKind name (slice_of text.now at) }
+    ensures { result ≡ is_kind name (slice_of text.now at) }
 {
     if is_within(text, at) {
         let from = at.start as usize;
@@ -79,14 +79,14 @@ fn is_kind(name: bool, text: &[u8], at: Span) -> bool
 
 // 4 for a name, 5 for an expression.
 fn refusal(name: bool) -> u32
-    ensures { result ≡ notKind name }
+    ensures { result ≡ not_kind name }
 {
     if name { 4 } else { 5 }
 }
 
 // A text is checked only where that could lower the refusal.
 fn check(name: bool, text: &[u8], at: Span, t: Done) -> Done
-    ensures { result ≡ cond (isKind name (slice_of text.now at)) t (lowered t (notKind name)) }
+    ensures { result ≡ cond (is_kind name (slice_of text.now at)) t (lowered t (not_kind name)) }
 {
     let k = refusal(name);
     if low(t) <= k {
@@ -100,7 +100,7 @@ fn check(name: bool, text: &[u8], at: Span, t: Done) -> Done
 
 // A name: its length, and its bytes.
 pub fn append_name(text: &[u8], at: Span, out: &mut [u8], s: Done) -> Done
-    ensures { Adds ((sized u32).print (slice_of text.now at)) (refusalOf text.now named at) out.old s out.new result }
+    ensures { Adds ((sized u32).print (slice_of text.now at)) (refusal_of text.now named at) out.old s out.new result }
 {
     let t = append_data(text, at, out, s);
     check(true, text, at, t)
@@ -108,7 +108,7 @@ pub fn append_name(text: &[u8], at: Span, out: &mut [u8], s: Done) -> Done
 
 // An expression: its bytes, which end in 0B.
 pub fn append_expr(text: &[u8], at: Span, out: &mut [u8], s: Done) -> Done
-    ensures { Adds (slice_of text.now at) (refusalOf text.now constant at) out.old s out.new result }
+    ensures { Adds (slice_of text.now at) (refusal_of text.now constant at) out.old s out.new result }
 {
     let t = append_slice(text, at, out, s);
     check(false, text, at, t)

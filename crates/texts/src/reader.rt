@@ -4,9 +4,9 @@ ghost use Rattle.format.specs.Count.{Appends};
 ghost use Rattle.format.specs.Sized.{sized};
 ghost use Rattle.leb128.specs.Formats.{u32};
 ghost use Rattle.exprs.specs.Laws.{expr};
-ghost use Rattle.texts.specs.Judge.{textMost};
+ghost use Rattle.texts.specs.Judge.{text_most};
 ghost use Rattle.texts.specs.Spans.{span};
-ghost use Rattle.texts.specs.Place.{spanAt, sizedAt, textAt};
+ghost use Rattle.texts.specs.Place.{span_at, sized_at, text_at};
 
 use crate::{Span, TextAt};
 use exprs::ExprEnd;
@@ -15,8 +15,8 @@ use numbers::ReadU32;
 
 // Data behind its length.
 pub fn find_data(bytes: &[u8], at: usize) -> TextAt
-    requires { length bytes.now ≤ textMost }
-    ensures { result ≡ textAt (sizedAt at) ((sized u32).parse (drop at bytes.now)) }
+    requires { length bytes.now ≤ text_most }
+    ensures { result ≡ text_at (sized_at at) ((sized u32).parse (drop at bytes.now)) }
 {
     let ReadU32::Value(n, p) = numbers::decode_u32(bytes, at) else {
         return TextAt::No;
@@ -32,8 +32,8 @@ pub fn find_data(bytes: &[u8], at: usize) -> TextAt
 
 // An expression, up to its 0B.
 pub fn find_expr(bytes: &[u8], at: usize) -> TextAt
-    requires { length bytes.now ≤ textMost }
-    ensures { result ≡ textAt (spanAt at) (expr.parse (drop at bytes.now)) }
+    requires { length bytes.now ≤ text_most }
+    ensures { result ≡ text_at (span_at at) (expr.parse (drop at bytes.now)) }
 {
     if bytes.len() < at {
         return TextAt::No;

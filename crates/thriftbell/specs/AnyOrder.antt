@@ -4,8 +4,8 @@ use Rattle.std.specs.Prelude.{◌≡◌, refl, Bool, true, false, cond, not, Lis
 use Rattle.std.proofs.Common.{sym, ap, subst, ◌∙◌, eqb-true, le-ltb}
 use Rattle.format.specs.Answers.{answer, settled}
 use Rattle.format.specs.Write as writing
-use Rattle.frames.specs.Builder.{fresh, is_over, isFull}
-use Rattle.frames.specs.Append.{Outcome, refused, isLarge}
+use Rattle.frames.specs.Builder.{fresh, is_over, is_full}
+use Rattle.frames.specs.Append.{Outcome, refused, is_large}
 use Rattle.frames.specs.Calls as calls
 use Rattle.frames.specs.declared.SectionId.{SectionId}
 use Rattle.frames.specs.declared.State.{State}
@@ -13,23 +13,23 @@ use Rattle.sections.specs.Section.{Ending}
 use Rattle.module.specs.Finish.{finishing}
 use Rattle.module.specs.Module.{module_of}
 use Rattle.module.specs.AnyOrder as module-order
-use Rattle.texts.specs.Judge.{itemMost, why, itemIn, fine}
+use Rattle.texts.specs.Judge.{item_most, why, item_in, fine}
 use Rattle.items.specs.Record.{records}
-use Rattle.items.specs.Judging.{sectionIn}
-use Rattle.thriftbell.specs.Add.{conditions, added, adding, then-room}
+use Rattle.items.specs.Judging.{section_in}
+use Rattle.thriftbell.specs.Add.{conditions, added, adding, then_room}
 
 -- a call: a record's words, and its text
 abbrev pub Call : Type 0
 Call = List ℕ × List ℕ
 
 abbrev pub sec : Call → SectionId
-sec c = sectionIn c.0
+sec c = section_in c.0
 
-abbrev pub whyOf : Call → ℕ
-whyOf c = why records c.0 c.1
+abbrev pub why_of : Call → ℕ
+why_of c = why records c.0 c.1
 
 abbrev pub item_of : Call → List ℕ
-item_of c = itemIn records c.0 c.1
+item_of c = item_in records c.0 c.1
 
 -- what a sequence of adds leaves
 abbrev pub adds : State → List ℕ → List Call → Outcome
@@ -43,44 +43,44 @@ Accepted state xs (c ∷ cs) = let o = adding state xs c.0 c.1 in (o.number ≡ 
 
 -- those of each section are the same, in the same order
 abbrev pub SameCalls : List Call → List Call → Type 0
-SameCalls = calls.SameCalls Call sec whyOf item_of
+SameCalls = calls.SameCalls Call sec why_of item_of
 
 -- ---- an add is one of the calls that frames/specs/Calls.antt is about
 
-same_answer : (state : State) (xs : List ℕ) (c : Call) → answer (calls.judged Call sec whyOf item_of state xs c) ≡ answer (conditions state xs c.0 c.1)
-same_answer state xs c = ap (λ (n : ℕ). cond (is_over state xs) 1 n) (go (eqb (whyOf c) 0) refl ∙ sym (then-room state xs c.0 c.1))
+same_answer : (state : State) (xs : List ℕ) (c : Call) → answer (calls.judged Call sec why_of item_of state xs c) ≡ answer (conditions state xs c.0 c.1)
+same_answer state xs c = ap (λ (n : ℕ). cond (is_over state xs) 1 n) (go (eqb (why_of c) 0) refl ∙ sym (then_room state xs c.0 c.1))
   where
-    go : (b : Bool) → eqb (whyOf c) 0 ≡ b
-        → cond (not (eqb (whyOf c) 0)) (whyOf c) (cond (isLarge (item_of c)) 6 (cond (isFull state xs (length (item_of c))) 7 0))
-        ≡ cond (eqb (whyOf c) 0) (cond (isFull state xs (length (item_of c))) 7 0) (whyOf c)
+    go : (b : Bool) → eqb (why_of c) 0 ≡ b
+        → cond (not (eqb (why_of c) 0)) (why_of c) (cond (is_large (item_of c)) 6 (cond (is_full state xs (length (item_of c))) 7 0))
+        ≡ cond (eqb (why_of c) 0) (cond (is_full state xs (length (item_of c))) 7 0) (why_of c)
     go true e =
-        let f = fine records c.0 c.1 (eqb-true (whyOf c) 0 e) in
-        let small : isLarge (item_of c) ≡ false = rw f.is (le-ltb itemMost (length (records.item c.1 f.value)) f.fits) in
+        let f = fine records c.0 c.1 (eqb-true (why_of c) 0 e) in
+        let small : is_large (item_of c) ≡ false = rw f.is (le-ltb item_most (length (records.item c.1 f.value)) f.fits) in
         rw (e, small)
     go false e = rw e
 
-same-adding : (state : State) (xs : List ℕ) (c : Call) → calls.adding Call sec whyOf item_of state xs c ≡ adding state xs c.0 c.1
+same_adding : (state : State) (xs : List ℕ) (c : Call) → calls.adding Call sec why_of item_of state xs c ≡ adding state xs c.0 c.1
 unfolding calls.adding adding
-same-adding state xs c = ap (settled (refused state xs) (added state xs c.0 c.1)) (same_answer state xs c)
+same_adding state xs c = ap (settled (refused state xs) (added state xs c.0 c.1)) (same_answer state xs c)
 
-same-adds : (state : State) (xs : List ℕ) (cs : List Call) → calls.adds Call sec whyOf item_of state xs cs ≡ adds state xs cs
-same-adds state xs [] = refl
-same-adds state xs (c ∷ cs) =
-    ap (λ (o : Outcome). calls.adds Call sec whyOf item_of o.state o.store cs) (same-adding state xs c)
-    ∙ same-adds (adding state xs c.0 c.1).state (adding state xs c.0 c.1).store cs
+same_adds : (state : State) (xs : List ℕ) (cs : List Call) → calls.adds Call sec why_of item_of state xs cs ≡ adds state xs cs
+same_adds state xs [] = refl
+same_adds state xs (c ∷ cs) =
+    ap (λ (o : Outcome). calls.adds Call sec why_of item_of o.state o.store cs) (same_adding state xs c)
+    ∙ same_adds (adding state xs c.0 c.1).state (adding state xs c.0 c.1).store cs
 
-all-accepted : (state : State) (xs : List ℕ) (cs : List Call) → Accepted state xs cs → calls.Accepted Call sec whyOf item_of state xs cs
-all-accepted state xs [] h = tt
-all-accepted state xs (c ∷ cs) h =
-    let e = same-adding state xs c in
-    subst (λ (o : Outcome). (o.number ≡ 0) × calls.Accepted Call sec whyOf item_of o.state o.store cs) (sym e) (h.0, all-accepted _ _ cs h.1)
+all_accepted : (state : State) (xs : List ℕ) (cs : List Call) → Accepted state xs cs → calls.Accepted Call sec why_of item_of state xs cs
+all_accepted state xs [] h = tt
+all_accepted state xs (c ∷ cs) h =
+    let e = same_adding state xs c in
+    subst (λ (o : Outcome). (o.number ≡ 0) × calls.Accepted Call sec why_of item_of o.state o.store cs) (sym e) (h.0, all_accepted _ _ cs h.1)
 
-accepted-all : (state : State) (xs : List ℕ) (cs : List Call) → calls.Accepted Call sec whyOf item_of state xs cs → Accepted state xs cs
-accepted-all state xs [] h = tt
-accepted-all state xs (c ∷ cs) h =
-    let e = same-adding state xs c in
-    let k = subst (λ (o : Outcome). (o.number ≡ 0) × calls.Accepted Call sec whyOf item_of o.state o.store cs) e h in
-    (k.0, accepted-all _ _ cs k.1)
+accepted_all : (state : State) (xs : List ℕ) (cs : List Call) → calls.Accepted Call sec why_of item_of state xs cs → Accepted state xs cs
+accepted_all state xs [] h = tt
+accepted_all state xs (c ∷ cs) h =
+    let e = same_adding state xs c in
+    let k = subst (λ (o : Outcome). (o.number ≡ 0) × calls.Accepted Call sec why_of item_of o.state o.store cs) e h in
+    (k.0, accepted_all _ _ cs k.1)
 
 -- ---- DEMAND 3
 
@@ -93,15 +93,15 @@ pub record Same (xs ys : List ℕ) (cs ds : List Call) : Type 0 where
   pub finish : (e : Ending) (out : List ℕ) → finished xs cs e out ≡ finished ys ds e out
   -- and where finishing is accepted, it writes the module of all calls' items
   pub is : (e : Ending) (out : List ℕ) → (finished xs cs e out).number ≡ 0
-      → finished xs cs e out ≡ writing.writing (module_of e (map (calls.frame_of Call sec whyOf item_of) cs)) out
+      → finished xs cs e out ≡ writing.writing (module_of e (map (calls.frame_of Call sec why_of item_of) cs)) out
 
 pub any_order : (xs ys : List ℕ) (cs ds : List Call) → length xs ≡ length ys → SameCalls cs ds → Accepted fresh xs cs → Same xs ys cs ds
 any_order xs ys cs ds n h a =
-    let s = module-order.any_order Call sec whyOf item_of xs ys cs ds n h (all-accepted fresh xs cs a) in
-    let f : (zs : List ℕ) (bs : List Call) (e : Ending) (out : List ℕ) → module-order.finished Call sec whyOf item_of zs bs e out ≡ finished zs bs e out =
-    λ zs bs e out. ap (λ (o : Outcome). finishing o.state o.store e out) (same-adds fresh zs bs) in
+    let s = module-order.any_order Call sec why_of item_of xs ys cs ds n h (all_accepted fresh xs cs a) in
+    let f : (zs : List ℕ) (bs : List Call) (e : Ending) (out : List ℕ) → module-order.finished Call sec why_of item_of zs bs e out ≡ finished zs bs e out =
+    λ zs bs e out. ap (λ (o : Outcome). finishing o.state o.store e out) (same_adds fresh zs bs) in
     record {
-      accepted = accepted-all fresh ys ds s.accepted;
+      accepted = accepted_all fresh ys ds s.accepted;
       finish = λ e out. sym (f xs cs e out) ∙ s.finish e out ∙ f ys ds e out;
       is = λ e out z.
           sym (f xs cs e out) ∙ s.is e out (ap (λ (o : writing.Outcome). o.number) (f xs cs e out) ∙ z);

@@ -9,9 +9,9 @@ use borrow.Author.Tests.{lt-ltb, le-ltb, le-leb, lt-leb}
 use Rattle.format.specs.Parsed.{Parsed, fail, got}
 use Rattle.format.specs.Read.{place_of}
 use Rattle.format.specs.Write.{over}
-use Rattle.format.specs.Answers.{answer, NoneHolds, given-exactly, accepted-exactly, settled, settled-accepts, settled-refuses, settled-exactly}
-use Rattle.texts.specs.Judge.{wordsMost}
-use Rattle.items.specs.Record.{Item, beginsIn, readIn, recordOf, record-some}
+use Rattle.format.specs.Answers.{answer, NoneHolds, given_exactly, accepted_exactly, settled, settled_accepts, settled_refuses, settled_exactly}
+use Rattle.texts.specs.Judge.{words_most}
+use Rattle.items.specs.Record.{Item, begins_in, read_in, record_of, record_some}
 use Rattle.thriftbell.specs.declared.Taken.{Taken}
 use Rattle.thriftbell.specs.declared.Taken.TheVariants.{Took, Refused}
 
@@ -32,17 +32,17 @@ outcome (Took m n) ys = record { number = 0; words = m; taken = n; memory = ys }
 outcome (Refused k) ys = refused ys k
 
 -- it looks at the first 65,536 bytes only
-abbrev pub frontOf : List ℕ → List ℕ
-frontOf bytes = take 65536 bytes
+abbrev pub front_of : List ℕ → List ℕ
+front_of bytes = take 65536 bytes
 
 -- the record's words, and how many bytes it took; none where no item begins the bytes
 abbrev pub read_of : List ℕ → Parsed Item → Option (List ℕ × ℕ)
 read_of b fail = none
-read_of b (got x r) = some (recordOf x, place_of b r)
+read_of b (got x r) = some (record_of x, place_of b r)
 
-abbrev pub isNothing : Option (List ℕ × ℕ) → Bool
-isNothing none = true
-isNothing (some p) = false
+abbrev pub is_nothing : Option (List ℕ × ℕ) → Bool
+is_nothing none = true
+is_nothing (some p) = false
 
 abbrev pub words_of : Option (List ℕ × ℕ) → List ℕ
 words_of none = []
@@ -54,11 +54,11 @@ taken_of (some p) = p.1
 
 module _ (id : ℕ) (bytes out : List ℕ) where
   unfoldable pub words_in : Option (List ℕ × ℕ)
-  words_in = read_of (frontOf bytes) (readIn id (frontOf bytes))
+  words_in = read_of (front_of bytes) (read_in id (front_of bytes))
 
   -- no item of that section begins the bytes; output shorter than the result
   abbrev pub conditions : List (ℕ × Bool)
-  conditions = (11, isNothing words_in) ∷ (10, ltb (length out) (length (words_of words_in))) ∷ []
+  conditions = (11, is_nothing words_in) ∷ (10, ltb (length out) (length (words_of words_in))) ∷ []
 
   abbrev pub took : Outcome
   took = record { number = 0; words = length (words_of words_in); taken = taken_of words_in; memory = over (words_of words_in) out }
@@ -70,28 +70,28 @@ module _ (id : ℕ) (bytes out : List ℕ) where
 
   exactly : {P : Type 0} {n : ℕ} → (answer conditions ≡ n) ↔ P → (reading.number ≡ n) ↔ P
   unfolding reading
-  exactly = settled-exactly (refused out) took (λ o. o.number) refl (λ n. refl)
+  exactly = settled_exactly (refused out) took (λ o. o.number) refl (λ n. refl)
 
-  pub eleven-exactly : (reading.number ≡ 11) ↔ (NoneHolds [] × (isNothing words_in ≡ true))
-  eleven-exactly = exactly (given-exactly 11 (isNothing words_in) [] (drop 1 conditions) (λ e. omega arith) refl refl)
+  pub eleven_exactly : (reading.number ≡ 11) ↔ (NoneHolds [] × (is_nothing words_in ≡ true))
+  eleven_exactly = exactly (given_exactly 11 (is_nothing words_in) [] (drop 1 conditions) (λ e. omega arith) refl refl)
 
-  pub ten-exactly : (reading.number ≡ 10) ↔ (NoneHolds (take 1 conditions) × (ltb (length out) (length (words_of words_in)) ≡ true))
-  ten-exactly = exactly (given-exactly 10 (ltb (length out) (length (words_of words_in))) (take 1 conditions) [] (λ e. omega arith) refl refl)
+  pub ten_exactly : (reading.number ≡ 10) ↔ (NoneHolds (take 1 conditions) × (ltb (length out) (length (words_of words_in)) ≡ true))
+  ten_exactly = exactly (given_exactly 10 (ltb (length out) (length (words_of words_in))) (take 1 conditions) [] (λ e. omega arith) refl refl)
 
-  pub zero-exactly : (reading.number ≡ 0) ↔ NoneHolds conditions
-  zero-exactly = exactly (accepted-exactly conditions refl)
+  pub zero_exactly : (reading.number ≡ 0) ↔ NoneHolds conditions
+  zero_exactly = exactly (accepted_exactly conditions refl)
 
   -- ---- what meets it
 
   refuses : (n : ℕ) → (n ≡ 0 → ⊥) → answer conditions ≡ n → refused out n ≡ reading
   unfolding reading
-  refuses n z e = sym (ap (settled (refused out) took) e ∙ settled-refuses (refused out) took n z)
+  refuses n z e = sym (ap (settled (refused out) took) e ∙ settled_refuses (refused out) took n z)
 
   pub none_read : words_in ≡ none → refused out 11 ≡ reading
   none_read e = refuses 11 (λ z. omega arith) (rw e)
 
-  pub short-out : (ws : List ℕ) (n : ℕ) → words_in ≡ some (ws, n) → length out < length ws → refused out 10 ≡ reading
-  short-out ws n e h = refuses 10 (λ z. omega arith) (rw (e, lt-ltb (length out) (length ws) h))
+  pub short_out : (ws : List ℕ) (n : ℕ) → words_in ≡ some (ws, n) → length out < length ws → refused out 10 ≡ reading
+  short_out ws n e h = refuses 10 (λ z. omega arith) (rw (e, lt-ltb (length out) (length ws) h))
 
   pub was_read : (ws : List ℕ) (n : ℕ) → words_in ≡ some (ws, n) → length ws ≤ length out
       → ◌≡◌ {A = Outcome} (record { number = 0; words = length ws; taken = n; memory = over ws out }) reading
@@ -99,56 +99,56 @@ module _ (id : ℕ) (bytes out : List ℕ) where
   was_read ws n e h =
       let z : answer conditions ≡ 0 = rw (e, le-ltb (length out) (length ws) h) in
       let t : ◌≡◌ {A = Outcome} (record { number = 0; words = length ws; taken = n; memory = over ws out }) took = rw e in
-      t ∙ sym (settled-accepts (refused out) took (answer conditions) z)
+      t ∙ sym (settled_accepts (refused out) took (answer conditions) z)
 
   -- ---- by the item that begins the bytes
 
-  pub no_item : readIn id (frontOf bytes) ≡ fail → words_in ≡ none
+  pub no_item : read_in id (front_of bytes) ≡ fail → words_in ≡ none
   unfolding words_in
-  no_item e = ap (read_of (frontOf bytes)) e
+  no_item e = ap (read_of (front_of bytes)) e
 
-  pub item-read : (x : Item) (r : List ℕ) → readIn id (frontOf bytes) ≡ got x r → words_in ≡ some (recordOf x, place_of (frontOf bytes) r)
+  pub item_read : (x : Item) (r : List ℕ) → read_in id (front_of bytes) ≡ got x r → words_in ≡ some (record_of x, place_of (front_of bytes) r)
   unfolding words_in
-  item-read x r e = ap (read_of (frontOf bytes)) e
+  item_read x r e = ap (read_of (front_of bytes)) e
 
-  pub none-begins : beginsIn id (frontOf bytes) ≡ fail → words_in ≡ none
-  none-begins e = no_item (rw e)
+  pub none_begins : begins_in id (front_of bytes) ≡ fail → words_in ≡ none
+  none_begins e = no_item (rw e)
 
   -- its record has at most 4,096 words, or more
-  module _ (x : Item) (r : List ℕ) (e : beginsIn id (frontOf bytes) ≡ got x r) where
-    pub many-words : wordsMost < length (recordOf x) → words_in ≡ none
-    many-words h = no_item (rw (e, lt-leb (length (recordOf x)) wordsMost h))
+  module _ (x : Item) (r : List ℕ) (e : begins_in id (front_of bytes) ≡ got x r) where
+    pub many_words : words_most < length (record_of x) → words_in ≡ none
+    many_words h = no_item (rw (e, lt-leb (length (record_of x)) words_most h))
 
-    pub few_words : length (recordOf x) ≤ wordsMost → words_in ≡ some (recordOf x, place_of (frontOf bytes) r)
-    few_words h = item-read x r (rw (e, le-leb (length (recordOf x)) wordsMost h))
+    pub few_words : length (record_of x) ≤ words_most → words_in ≡ some (record_of x, place_of (front_of bytes) r)
+    few_words h = item_read x r (rw (e, le-leb (length (record_of x)) words_most h))
 
 -- bytes behind the front do not matter
-pub only-front : (id : ℕ) (b c out : List ℕ) → frontOf b ≡ frontOf c → reading id b out ≡ reading id c out
+pub only_front : (id : ℕ) (b c out : List ℕ) → front_of b ≡ front_of c → reading id b out ≡ reading id c out
 unfolding reading words_in
-only-front id b c out e = rw e
+only_front id b c out e = rw e
 
 -- any two answers and outputs that the contract allows are equal
 module _ (id : ℕ) (bytes out : List ℕ) where
   -- a record has some words
-  some_words : isNothing (words_in id bytes out) ≡ false → 0 < length (words_of (words_in id bytes out))
+  some_words : is_nothing (words_in id bytes out) ≡ false → 0 < length (words_of (words_in id bytes out))
   unfolding words_in
-  some_words e = go (readIn id (frontOf bytes)) e
+  some_words e = go (read_in id (front_of bytes)) e
     where
-      go : (m : Parsed Item) → isNothing (read_of (frontOf bytes) m) ≡ false → 0 < length (words_of (read_of (frontOf bytes) m))
+      go : (m : Parsed Item) → is_nothing (read_of (front_of bytes) m) ≡ false → 0 < length (words_of (read_of (front_of bytes) m))
       go fail e = absurd (true≢false e)
-      go (got x r) e = record-some x
+      go (got x r) e = record_some x
 
   -- accepted, it has written some
   some_written : (reading id bytes out).number ≡ 0 → (reading id bytes out).words ≡ 0 → ⊥
   unfolding reading
   some_written z e =
-      let h = (zero-exactly id bytes out).0 z in
-      let a : answer (conditions id bytes out) ≡ 0 = (accepted-exactly (conditions id bytes out) refl).1 h in
-      let o = settled-accepts (refused out) (took id bytes out) (answer (conditions id bytes out)) a in
+      let h = (zero_exactly id bytes out).0 z in
+      let a : answer (conditions id bytes out) ≡ 0 = (accepted_exactly (conditions id bytes out) refl).1 h in
+      let o = settled_accepts (refused out) (took id bytes out) (answer (conditions id bytes out)) a in
       omega (arith, ap (λ (o : Outcome). o.words) o, some_words h.0)
 
-  pub one-read : {r s : Taken} {ys zs : List ℕ} → outcome r ys ≡ reading id bytes out → outcome s zs ≡ reading id bytes out → (r ≡ s) × (ys ≡ zs)
-  one-read {r} {s} {ys} {zs} p q = go r s p q
+  pub one_read : {r s : Taken} {ys zs : List ℕ} → outcome r ys ≡ reading id bytes out → outcome s zs ≡ reading id bytes out → (r ≡ s) × (ys ≡ zs)
+  one_read {r} {s} {ys} {zs} p q = go r s p q
     where
       go : (r s : Taken) → outcome r ys ≡ reading id bytes out → outcome s zs ≡ reading id bytes out → (r ≡ s) × (ys ≡ zs)
       go (Took m n) (Took k l) p q =
@@ -162,5 +162,5 @@ module _ (id : ℕ) (bytes out : List ℕ) where
 
 -- a record of n words is put at the front of what was lent, where there is room for it, if its words stand at the front of what was tried, where there was room
 pub record PutsWords (id : ℕ) (b : List ℕ) (n : ℕ) (tried old new : List ℕ) : Type 0 where
-  pub puts : (x : Item) (r : List ℕ) → beginsIn id b ≡ got x r → length (recordOf x) ≡ n → (n ≤ length tried → take n tried ≡ recordOf x)
-      → n ≤ wordsMost → n ≤ length old → new ≡ over (recordOf x) old
+  pub puts : (x : Item) (r : List ℕ) → begins_in id b ≡ got x r → length (record_of x) ≡ n → (n ≤ length tried → take n tried ≡ record_of x)
+      → n ≤ words_most → n ≤ length old → new ≡ over (record_of x) old

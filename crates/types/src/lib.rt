@@ -2,9 +2,9 @@
 ghost use Rattle.std.specs.Prelude.{◌≡◌};
 ghost use Rattle.format.specs.Basic.{find};
 ghost use Rattle.types.specs.Abstract.{abstracts, kind_of, byte_of};
-ghost use Rattle.types.specs.Words.{heapKind, heapShared, heapIndex, refOf};
-ghost use Rattle.types.specs.Bytes.{isAbs};
-ghost use Rattle.types.specs.Answers.{kindAns, refAns};
+ghost use Rattle.types.specs.Words.{heap_kind, heap_shared, heap_index, ref_of};
+ghost use Rattle.types.specs.Bytes.{is_abs};
+ghost use Rattle.types.specs.Answers.{kind_ans, ref_ans};
 ghost use Rattle.types.specs.declared.HeapType.TheVariants.{Abstract};
 
 // The abstract heap types, in the order of their kinds.
@@ -91,7 +91,7 @@ pub enum RefAt {
 
 impl AbstractHeapType {
     pub fn from_byte(b: u8) -> AbstractRead
-        ensures { result ≡ kindAns (find byte_of abstracts b) }
+        ensures { result ≡ kind_ans (find byte_of abstracts b) }
     {
         match b {
             0x70 => AbstractRead::Kind(AbstractHeapType::Func),
@@ -134,7 +134,7 @@ impl AbstractHeapType {
     }
 
     pub fn from_kind(k: u32) -> AbstractRead
-        ensures { result ≡ kindAns (find kind_of abstracts k) }
+        ensures { result ≡ kind_ans (find kind_of abstracts k) }
     {
         match k {
             0 => AbstractRead::Kind(AbstractHeapType::Func),
@@ -179,7 +179,7 @@ impl AbstractHeapType {
 
 impl HeapType {
     pub fn is_abstract(self) -> bool
-        ensures { result ≡ isAbs self }
+        ensures { result ≡ is_abs self }
     {
         match self {
             HeapType::Abstract { shared: _, ty: _ } => true,
@@ -189,7 +189,7 @@ impl HeapType {
     }
 
     pub fn kind(self) -> u32
-        ensures { result ≡ heapKind self }
+        ensures { result ≡ heap_kind self }
     {
         match self {
             HeapType::Abstract { shared: _, ty } => ty.kind(),
@@ -199,7 +199,7 @@ impl HeapType {
     }
 
     pub fn is_shared(self) -> bool
-        ensures { result ≡ heapShared self }
+        ensures { result ≡ heap_shared self }
     {
         match self {
             HeapType::Abstract { shared, ty: _ } => shared,
@@ -209,7 +209,7 @@ impl HeapType {
     }
 
     pub fn index(self) -> u32
-        ensures { result ≡ heapIndex self }
+        ensures { result ≡ heap_index self }
     {
         match self {
             HeapType::Abstract { shared: _, ty: _ } => 0,
@@ -290,7 +290,7 @@ impl RefType {
 
     // The words h and x: the low four bits are the kind, bit 4 says nullable, bit 5 shared.
     pub fn from_words(h: u32, x: u32) -> RefRead
-        ensures { result ≡ refAns (refOf (h, x)) }
+        ensures { result ≡ ref_ans (ref_of (h, x)) }
     {
         if h >> 6 != 0 {
             return RefRead::No;

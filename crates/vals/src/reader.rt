@@ -3,8 +3,8 @@ ghost use Rattle.std.specs.Prelude.{◌≡◌, [], ◌∷◌, get_or};
 ghost use Rattle.format.specs.Basic.{find, flag};
 ghost use Rattle.format.specs.Count.{Appends, silent};
 ghost use Rattle.format.specs.Walk.{Walks};
-ghost use Rattle.types.specs.Vals.{nums, numByte, num_kind, packeds, packedByte, packedKind, valWords, valBytes, fieldWords, fieldBytes};
-ghost use Rattle.types.specs.Answers.{codeOr};
+ghost use Rattle.types.specs.Vals.{nums, num_byte, num_kind, packeds, packed_byte, packed_kind, val_words, val_bytes, field_words, field_bytes};
+ghost use Rattle.types.specs.Answers.{code_or};
 
 use format::{Done, Walk, append_word, append_words};
 use refs::read_ref;
@@ -18,7 +18,7 @@ fn append_kind(k: u32, out: &mut [u32], s: Done) -> Done
 
 // The kind of a storage type that is one byte; 5, a reference's, where this byte is none.
 fn plain_kind(b: u8) -> u32
-    ensures { result ≡ codeOr packedKind (codeOr num_kind 5 (find numByte nums b)) (find packedByte packeds b) }
+    ensures { result ≡ code_or packed_kind (code_or num_kind 5 (find num_byte nums b)) (find packed_byte packeds b) }
 {
     match b {
         0x7F => 0,
@@ -33,7 +33,7 @@ fn plain_kind(b: u8) -> u32
 }
 
 pub fn read_val(b: &[u8], at: usize, out: &mut [u32], s: Done) -> Walk
-    ensures { Walks valBytes valWords.print silent b.now at out.old s out.new result }
+    ensures { Walks val_bytes val_words.print silent b.now at out.old s out.new result }
 {
     if b.len() <= at {
         return Walk::No;
@@ -72,7 +72,7 @@ pub fn read_mutable(b: &[u8], at: usize, out: &mut [u32], s: Done) -> Walk
 
 // Most storage types are one byte: their words and the field's last are appended at once.
 pub fn read_field(b: &[u8], at: usize, out: &mut [u32], s: Done) -> Walk
-    ensures { Walks fieldBytes fieldWords.print silent b.now at out.old s out.new result }
+    ensures { Walks field_bytes field_words.print silent b.now at out.old s out.new result }
 {
     if b.len() <= at {
         return Walk::No;

@@ -4,8 +4,8 @@ ghost use Rattle.format.specs.Basic.{find, flag};
 ghost use Rattle.format.specs.Count.{silent};
 ghost use Rattle.format.specs.Walk.{Walks};
 ghost use Rattle.words.specs.Words.{unused};
-ghost use Rattle.types.specs.Vals.{nums, num_kind, numByte, valWords, valBytes, storageWords, storageBytes, fieldWords, fieldBytes};
-ghost use Rattle.types.specs.Answers.{codeOr};
+ghost use Rattle.types.specs.Vals.{nums, num_kind, num_byte, val_words, val_bytes, storage_words, storage_bytes, field_words, field_bytes};
+ghost use Rattle.types.specs.Answers.{code_or};
 
 use format::{Done, Walk, append_byte};
 use refs::walk_ref;
@@ -31,7 +31,7 @@ fn walk_unused(words: &[u32], at: usize, b: u8, out: &mut [u8], s: Done) -> Walk
 
 // The byte of a number or vector type by its kind; 0 where there is none.
 fn num_byte(k: u32) -> u8
-    ensures { result ≡ codeOr numByte 0 (find num_kind nums k) }
+    ensures { result ≡ code_or num_byte 0 (find num_kind nums k) }
 {
     match k {
         0 => 0x7F,
@@ -44,7 +44,7 @@ fn num_byte(k: u32) -> u8
 }
 
 pub fn walk_val(words: &[u32], at: usize, out: &mut [u8], s: Done) -> Walk
-    ensures { Walks valWords valBytes.print silent words.now at out.old s out.new result }
+    ensures { Walks val_words val_bytes.print silent words.now at out.old s out.new result }
 {
     if words.len() <= at {
         return Walk::No;
@@ -61,7 +61,7 @@ pub fn walk_val(words: &[u32], at: usize, out: &mut [u8], s: Done) -> Walk
 }
 
 pub fn walk_storage(words: &[u32], at: usize, out: &mut [u8], s: Done) -> Walk
-    ensures { Walks storageWords storageBytes.print silent words.now at out.old s out.new result }
+    ensures { Walks storage_words storage_bytes.print silent words.now at out.old s out.new result }
 {
     if words.len() <= at {
         return Walk::No;
@@ -91,7 +91,7 @@ pub fn walk_mutable(words: &[u32], at: usize, out: &mut [u8], s: Done) -> Walk
 }
 
 pub fn walk_field(words: &[u32], at: usize, out: &mut [u8], s: Done) -> Walk
-    ensures { Walks fieldWords fieldBytes.print silent words.now at out.old s out.new result }
+    ensures { Walks field_words field_bytes.print silent words.now at out.old s out.new result }
 {
     let Walk::Got(p, t) = walk_storage(words, at, out, s) else {
         return Walk::No;

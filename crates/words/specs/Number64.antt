@@ -23,6 +23,6 @@ number64 =
       to = λ n. (n % 2 ^ 32, n / 2 ^ 32);
       of = λ w. some (w.0 + w.1 * 2 ^ 32);
       fits = λ n h. (omega arith, omega arith);
-      of-to = λ n h. ap some (omega arith);
-      to-of = λ w n h e. halves w.0 w.1 n h.0 h.1 e;
+      of_to = λ n h. ap some (omega arith);
+      to_of = λ w n h e. halves w.0 w.1 n h.0 h.1 e;
     })

@@ -8,7 +8,7 @@ use Rattle.format.specs.Lists.{many}
 use Rattle.format.specs.Count.{Appends, silent}
 use Rattle.format.specs.Walk.{Walking, value_there}
 use Rattle.format.specs.Loop.{MembersAt}
-use Rattle.format.specs.Counted.{CountedList, count-exceeds, members-follow}
+use Rattle.format.specs.Counted.{CountedList, count_exceeds, members_follow}
 use Rattle.format.specs.declared.Done.{Done}
 use Rattle.format.specs.declared.Walk.{Walk}
 use Rattle.format.specs.declared.Walk.TheVariants as walks
@@ -30,15 +30,15 @@ pub one_word : {f : ℕ → List ℕ} {w : List ℕ} {at : ℕ} {old : List ℕ}
 one_word {w = w} {at} h a k = value_there a (word_read w at h k) (omega arith)
 
 -- a count takes a word
-pub word-long : (n : ℕ) → 0 < length (word.print n)
-word-long n = omega arith
+pub word_long : (n : ℕ) → 0 < length (word.print n)
+word_long n = omega arith
 
 -- a list behind its count
 module _ {A : Type 0} {c : ℕ → List ℕ} {F : Format A} {f : ℕ → A → List ℕ} {g : A → ℕ} {f' : ℕ → List A → List ℕ} {g' : List A → ℕ} (K : CountedList word c F f g f' g') {w : List ℕ} {at : ℕ}
     {old : List ℕ} {s : Done} {new : List ℕ} (h : at < length w) where
-  pub more-than-words : length w - at - 1 < get_or w at 0 → AreWords w → Walking (many word F).parse (f' at) g' w at old s new walks.No
-  more-than-words l k = count-exceeds K (get_or w at 0) (at + 1) (word_read w at h k) (omega arith)
+  pub more_than_words : length w - at - 1 < get_or w at 0 → AreWords w → Walking (many word F).parse (f' at) g' w at old s new walks.No
+  more_than_words l k = count_exceeds K (get_or w at 0) (at + 1) (word_read w at h k) (omega arith)
 
-  pub members-behind : {cur : List ℕ} {t : Done} {r : Walk} → Appends (c (get_or w at 0)) old s cur t → MembersAt F f g w (at + 1) (get_or w at 0) cur t new r → AreWords w
+  pub members_behind : {cur : List ℕ} {t : Done} {r : Walk} → Appends (c (get_or w at 0)) old s cur t → MembersAt F f g w (at + 1) (get_or w at 0) cur t new r → AreWords w
       → Walking (many word F).parse (f' at) g' w at old s new r
-  members-behind a m k = members-follow K (get_or w at 0) (at + 1) (word_read w at h k) (omega arith) a m
+  members_behind a m k = members_follow K (get_or w at 0) (at + 1) (word_read w at h k) (omega arith) a m

@@ -4,5 +4,5 @@ use Rattle.capi.proofs.Telling.{told}
 use Rattle.capi.proofs.thriftbell_decode_u64.Statement.{statement}
 use Rattle.capi.proofs.thriftbell_decode_u64.Tie as tie
 
-pub thriftbell-decode-u64-spec : {M : Type 1} → statement M
-thriftbell-decode-u64-spec = tie.close (tie.spec (λ c κs. search rules) (λ c κs. search rules) (λ c. search told))
+pub thriftbell_decode_u64_spec : {M : Type 1} → statement M
+thriftbell_decode_u64_spec = tie.close (tie.spec (λ c κs. search rules) (λ c κs. search rules) (λ c. search told))

@@ -15,11 +15,11 @@ decreases-loop s n i₀ i = length s - i
 loop-holds : tie.Need-loop-init invariant-loop decreases-loop
 loop-holds c = zero-le
 
-digit-requires : tie.Need-digit-requires invariant-loop decreases-loop
-digit-requires c κs = omega (arith, c.shared-slice-known2.given c.before.before.before.loop.i)
+digit_requires : tie.Need-digit-requires invariant-loop decreases-loop
+digit_requires c κs = omega (arith, c.shared-slice-known2.given c.before.before.before.loop.i)
 
-pub show-spec : {M : Type 1} → statement M
-show-spec =
+pub show_spec : {M : Type 1} → statement M
+show_spec =
     tie.close
     (tie.spec
     invariant-loop
@@ -27,7 +27,7 @@ show-spec =
     loop-holds
     (λ c. search rules)
     (λ c. search rules)
-    digit-requires
+    digit_requires
     (λ c κs. search rules)
     (λ c. search rules)
     (λ c κs. search rules)

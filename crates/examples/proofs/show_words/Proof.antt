@@ -15,8 +15,8 @@ decreases-loop words i₀ t3 i = length words - i
 loop-holds : tie.Need-loop-init invariant-loop decreases-loop
 loop-holds c = zero-le
 
-pub show-words-spec : {M : Type 1} → statement M
-show-words-spec =
+pub show_words_spec : {M : Type 1} → statement M
+show_words_spec =
     tie.close
     (tie.spec
     invariant-loop

@@ -2,7 +2,7 @@
 use Prim.Native.Nat.{◌-◌, ◌≤◌}
 use lib.ListN.{length}
 use borrow.Author.Rules.{rules}
-use Rattle.exprs.proofs.Ends.{Scanned, scan-starts, bytes-missing, number-ends, number-wrong, number-goes-on, no-instruction, last-instruction, operand-begins, operand-missing, operand-passed, fewer-left}
+use Rattle.exprs.proofs.Ends.{Scanned, scan_starts, bytes_missing, number_ends, number_wrong, number_goes_on, no_instruction, last_instruction, operand_begins, operand_missing, operand_passed, fewer_left}
 use Rattle.exprs.proofs.expr_end.Statement.{statement}
 use Rattle.exprs.proofs.expr_end.Tie as tie
 
@@ -12,46 +12,46 @@ invariant-loop s i₀ k n₀ i n = (i ≤ length s) × (i₀ ≤ i) × (2 ≤ k)
 abbrev decreases-loop : tie.decreases-loop
 decreases-loop s i₀ k n₀ i n = length s - i
 
-abbrev invariant-instructions : tie.invariant-instructions
-invariant-instructions s i₀ i = Scanned s 0 0 i
+abbrev invariant_instructions : tie.invariant_instructions
+invariant_instructions s i₀ i = Scanned s 0 0 i
 
 abbrev decreases-instructions : tie.decreases-instructions
 decreases-instructions s i₀ i = length s - i
 
-pub expr-end-spec : {M : Type 1} → statement M
-expr-end-spec =
+pub expr_end_spec : {M : Type 1} → statement M
+expr_end_spec =
     tie.close
     (tie.spec
     invariant-loop
     decreases-loop
-    invariant-instructions
+    invariant_instructions
     decreases-instructions
-    (λ c. search scan-starts)
-    (λ c. search bytes-missing)
+    (λ c. search scan_starts)
+    (λ c. search bytes_missing)
     (λ c. search rules)
     (λ c κs. search rules)
     (λ c. search rules)
     (λ c. search rules)
     (λ c. search rules)
-    (λ c. search no-instruction)
+    (λ c. search no_instruction)
     (λ c. search rules)
     (λ c. search rules)
     (λ c κs. search rules)
     (λ c. search rules)
     (λ c. search rules)
-    (λ c. search operand-missing)
-    (λ c. search fewer-left)
-    (λ c. search operand-passed)
-    (λ c. search (operand-begins, rules))
+    (λ c. search operand_missing)
+    (λ c. search fewer_left)
+    (λ c. search operand_passed)
+    (λ c. search (operand_begins, rules))
     (λ c. search rules)
-    (λ c. search number-ends)
-    (λ c. search bytes-missing)
+    (λ c. search number_ends)
+    (λ c. search bytes_missing)
     (λ c. search rules)
     (λ c κs. search rules)
     (λ c. search rules)
     (λ c. search rules)
-    (λ c. search number-wrong)
+    (λ c. search number_wrong)
     (λ c. search rules)
     (λ c. search rules)
-    (λ c. search (number-goes-on, rules))
-    (λ c. search last-instruction))
+    (λ c. search (number_goes_on, rules))
+    (λ c. search last_instruction))

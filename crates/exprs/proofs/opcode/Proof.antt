@@ -1,7 +1,7 @@
 -- `exprs::opcode` meets its contract. Assumes nothing.
 use Rattle.exprs.specs.Scan.{opcode}
 use borrow.Author.Rules.{rules}
-use Rattle.exprs.proofs.Ends.{other-code}
+use Rattle.exprs.proofs.Ends.{other_code}
 use Rattle.exprs.proofs.opcode.Statement.{statement}
 use Rattle.exprs.proofs.opcode.Tie as tie
 
@@ -37,5 +37,5 @@ returns-8 : tie.Need-returns-8
 unfolding opcode
 returns-8 c = rw c.if8.true
 
-pub opcode-spec : {M : Type 1} → statement M
-opcode-spec = tie.close (tie.spec returns returns-2 returns-3 returns-4 returns-5 returns-6 returns-7 returns-8 (λ c κs. search rules) (λ c. search other-code))
+pub opcode_spec : {M : Type 1} → statement M
+opcode_spec = tie.close (tie.spec returns returns-2 returns-3 returns-4 returns-5 returns-6 returns-7 returns-8 (λ c κs. search rules) (λ c. search other_code))

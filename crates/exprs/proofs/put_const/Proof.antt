@@ -2,18 +2,18 @@
 use Prim.Native.Nat.{◌<◌, ◌^◌}
 use lib.ListN.{length}
 use borrow.Author.Rules.{rules}
-use Rattle.exprs.proofs.Making.{const-short, const-not, const-made, const-long, end_fits, long-fits, end-within}
+use Rattle.exprs.proofs.Making.{const_short, const_not, const_made, const_long, end_fits, long_fits, end_within}
 use Rattle.exprs.proofs.put_const.Statement.{statement}
 use Rattle.exprs.proofs.put_const.Tie as tie
 
 slice_fits : (k : tie.After-slice-known) → length k.before.args.out.now < 2 ^ 63
 slice_fits k = search rules
 
-pub put-const-spec : {M : Type 1} → statement M
-put-const-spec =
+pub put_const_spec : {M : Type 1} → statement M
+put_const_spec =
     tie.close
     (tie.spec
-    (λ c. search const-short)
+    (λ c. search const_short)
     (λ c. search rules)
     (λ c. search rules)
     (λ c. search rules)
@@ -22,10 +22,10 @@ put-const-spec =
     (λ c. search rules)
     (λ c. search rules)
     (λ c. search (end_fits, slice_fits))
-    (λ c. search end-within)
-    (λ c. search (long-fits, slice_fits))
+    (λ c. search end_within)
+    (λ c. search (long_fits, slice_fits))
     (λ c. search rules)
-    (λ c. search const-long)
-    (λ c. search const-made)
+    (λ c. search const_long)
+    (λ c. search const_made)
     (λ c. search rules)
-    (λ c. search const-not))
+    (λ c. search const_not))

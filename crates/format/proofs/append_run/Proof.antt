@@ -1,11 +1,11 @@
 -- `format::append_run` meets its contract: the copy leaf was lent the part from the current end on. Assumes nothing.
-use Rattle.format.specs.Count.{adds-lent}
+use Rattle.format.specs.Count.{adds_lent}
 use borrow.Author.Rules.{rules}
 use Rattle.format.proofs.append_run.Statement.{statement}
 use Rattle.format.proofs.append_run.Tie as tie
 
-pub append-run-spec : {M : Type 1} → statement M
-append-run-spec =
+pub append_run_spec : {M : Type 1} → statement M
+append_run_spec =
     tie.close
     (tie.spec
     (λ c κs. search rules)
@@ -16,4 +16,4 @@ append-run-spec =
     (λ c κs. search rules)
     (λ c κs. search rules)
     (λ c. search rules)
-    (λ c. search adds-lent))
+    (λ c. search adds_lent))

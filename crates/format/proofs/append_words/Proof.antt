@@ -1,11 +1,11 @@
 -- `format::append_words` meets its contract: the words' copy leaf was lent the part from the current end on. Assumes nothing.
-use Rattle.format.specs.Count.{adds-lent}
+use Rattle.format.specs.Count.{adds_lent}
 use borrow.Author.Rules.{rules}
 use Rattle.format.proofs.append_words.Statement.{statement}
 use Rattle.format.proofs.append_words.Tie as tie
 
-pub append-words-spec : {M : Type 1} → statement M
-append-words-spec =
+pub append_words_spec : {M : Type 1} → statement M
+append_words_spec =
     tie.close
     (tie.spec
     (λ c κs. search rules)
@@ -17,4 +17,4 @@ append-words-spec =
     (λ c κs. search rules)
     (λ c κs. search rules)
     (λ c. search rules)
-    (λ c. search adds-lent))
+    (λ c. search adds_lent))

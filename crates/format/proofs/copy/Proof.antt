@@ -1,13 +1,13 @@
 -- `format::copy` meets its contract: a length test, and what `bytes::copy` leaves. Assumes nothing.
 use mathlib.Core.Path.{◌∙◌}
 use lib.Seq.{take-length}
-use Rattle.format.specs.Write.{writes, writes-not}
+use Rattle.format.specs.Write.{writes, writes_not}
 use borrow.Author.Rules.{rules}
 use Rattle.format.proofs.copy.Statement.{statement}
 use Rattle.format.proofs.copy.Tie as tie
 
 returns : tie.Need-returns
-returns c = writes-not c.if1.true
+returns c = writes_not c.if1.true
 
 returns-2 : tie.Need-returns-2
 returns-2 c =

@@ -7,7 +7,7 @@ use borrow.Author.Rules.{rules}
 use lib.ListN.{length, get_or, drop, length-set}
 use lib.Seq.{drop-length}
 use Rattle.format.specs.Read.{drop_more}
-use Rattle.format.specs.Write.{over, writes, writes-not, todo, todo-start, todo-byte, todo-end}
+use Rattle.format.specs.Write.{over, writes, writes_not, todo, todo_start, todo_byte, todo_end}
 use Rattle.format.proofs.copy_words.Statement.{statement}
 use Rattle.format.proofs.copy_words.Tie as tie
 
@@ -18,17 +18,17 @@ abbrev decreases-loop : tie.decreases-loop
 decreases-loop w out₀ i₀ out i = length w - i
 
 returns : tie.Need-returns invariant-loop decreases-loop
-returns c = writes-not c.if1.true
+returns c = writes_not c.if1.true
 
 loop-holds : tie.Need-loop-init invariant-loop decreases-loop
-loop-holds c = let a = c.before.args in (todo-start a.w.now a.out.now, omega arith, c.if1.false, refl)
+loop-holds c = let a = c.before.args in (todo_start a.w.now a.out.now, omega arith, c.if1.false, refl)
 
 loop-again : tie.Need-loop-preserved invariant-loop decreases-loop
 loop-again c =
     let w = c.before.before.before.before.args.w.now in
     let l = c.before.before.loop in
     let h = c.before.loop-test.true in (
-      todo-byte l.i (get_or w l.i 0) (drop (l.i + 1) w) l.out (omega (arith, l.invariant.2, l.invariant.3)) ∙ ap (λ (r : List _). todo l.i r l.out) (sym (drop_more w l.i h)) ∙ l.invariant.0,
+      todo_byte l.i (get_or w l.i 0) (drop (l.i + 1) w) l.out (omega (arith, l.invariant.2, l.invariant.3)) ∙ ap (λ (r : List _). todo l.i r l.out) (sym (drop_more w l.i h)) ∙ l.invariant.0,
       omega arith,
       l.invariant.2,
       simp length-set l.invariant.3,
@@ -40,10 +40,10 @@ returns-2 c =
     let l = c.before.loop in
     let e : l.i ≡ length w = omega (arith, l.invariant.1, c.loop-test.false) in
     let z : drop l.i w ≡ [] = rw e (drop-length w) in
-    writes l.invariant.2 e (sym (todo-end l.i l.out) ∙ rw z at l.invariant.0)
+    writes l.invariant.2 e (sym (todo_end l.i l.out) ∙ rw z at l.invariant.0)
 
-pub copy-words-spec : {M : Type 1} → statement M
-copy-words-spec =
+pub copy_words_spec : {M : Type 1} → statement M
+copy_words_spec =
     tie.close
     (tie.spec
     invariant-loop

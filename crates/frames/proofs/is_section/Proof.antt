@@ -1,5 +1,5 @@
 -- `frames::is_section` meets its contract: each id of the list is tried. Assumes nothing.
-use Rattle.frames.proofs.Placing.{section-last}
+use Rattle.frames.proofs.Placing.{section_last}
 use Rattle.frames.proofs.is_section.Statement.{statement}
 use Rattle.frames.proofs.is_section.Tie as tie
 
@@ -15,5 +15,5 @@ returns-3 c = rw c.if3.true
 returns-4 : tie.Need-returns-4
 returns-4 c = rw c.if4.true
 
-pub is-section-spec : {M : Type 1} → statement M
-is-section-spec = tie.close (tie.spec returns returns-2 returns-3 returns-4 (λ c. search section-last))
+pub is_section_spec : {M : Type 1} → statement M
+is_section_spec = tie.close (tie.spec returns returns-2 returns-3 returns-4 (λ c. search section_last))

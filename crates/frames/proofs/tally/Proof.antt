@@ -3,8 +3,8 @@ use Prim.Native.Nat.{◌-◌, ◌<◌, ◌^◌}
 use lib.ListN.{length}
 use borrow.Author.Rules.{rules}
 use Rattle.frames.specs.Tally.{table, tally_of}
-use Rattle.frames.proofs.Finding.{id_below, id-scaled, frame-from, item_from, frame-less}
-use Rattle.frames.proofs.Walking.{Tallied, tally-none, count-grows, total-grows, tally-more, tally-stop, tally-done}
+use Rattle.frames.proofs.Finding.{id_below, id_scaled, frame_from, item_from, frame_less}
+use Rattle.frames.proofs.Walking.{Tallied, tally_none, count_grows, total_grows, tally_more, tally_stop, tally_done}
 use Rattle.frames.proofs.tally.Statement.{statement}
 use Rattle.frames.proofs.tally.Tie as tie
 
@@ -19,14 +19,14 @@ slice_fits k = search rules
 
 loop-holds : tie.Need-loop-init invariant-loop decreases-loop
 unfolding table
-loop-holds c = tally-none _
+loop-holds c = tally_none _
 
 returns : tie.Need-returns invariant-loop decreases-loop
 unfolding table tally_of
-returns c = search tally-stop
+returns c = search tally_stop
 
-pub tally-spec : {M : Type 1} → statement M
-tally-spec =
+pub tally_spec : {M : Type 1} → statement M
+tally_spec =
     tie.close
     (tie.spec
     invariant-loop
@@ -37,16 +37,16 @@ tally-spec =
     (λ c. search rules)
     returns
     (λ c. search rules)
-    (λ c. search id-scaled)
+    (λ c. search id_scaled)
     (λ c. search id_below)
-    (λ c. search (count-grows, slice_fits))
+    (λ c. search (count_grows, slice_fits))
     (λ c. search id_below)
-    (λ c. search frame-from)
+    (λ c. search frame_from)
     (λ c. search item_from)
-    (λ c. search id-scaled)
+    (λ c. search id_scaled)
     (λ c. search id_below)
-    (λ c. search (total-grows, slice_fits))
+    (λ c. search (total_grows, slice_fits))
     (λ c. search id_below)
-    (λ c. search frame-less)
-    (λ c. search tally-more)
-    (λ c. search tally-done))
+    (λ c. search frame_less)
+    (λ c. search tally_more)
+    (λ c. search tally_done))

@@ -2,8 +2,8 @@
 use Prim.Native.Nat.{◌-◌}
 use lib.ListN.{length}
 use borrow.Author.Rules.{rules}
-use Rattle.replies.specs.Keeping.{line_kept, store_kept, buffer-kept, out-kept}
-use Rattle.hexlines.proofs.Hearing.{Hearing, hearing-starts, all-heard, next_fits, fewer-left, waiting-within, not_written, hearing-goes-on}
+use Rattle.replies.specs.Keeping.{line_kept, store_kept, buffer_kept, out_kept}
+use Rattle.hexlines.proofs.Hearing.{Hearing, hearing_starts, all_heard, next_fits, fewer_left, waiting_within, not_written, hearing_goes_on}
 use Rattle.hexlines.proofs.hear_piece.Statement.{statement}
 use Rattle.hexlines.proofs.hear_piece.Tie as tie
 
@@ -13,31 +13,31 @@ invariant-loop piece line₀ store₀ buffer₀ out₀ run₀ i₀ line store bu
 abbrev decreases-loop : tie.decreases-loop
 decreases-loop piece line₀ store₀ buffer₀ out₀ run₀ i₀ line store buffer out run i = length piece - i
 
-pub hear-piece-spec : {M : Type 1} → statement M
-hear-piece-spec =
+pub hear_piece_spec : {M : Type 1} → statement M
+hear_piece_spec =
     tie.close
     (tie.spec
     invariant-loop
     decreases-loop
-    (λ c. search hearing-starts)
+    (λ c. search hearing_starts)
     (λ c. search rules)
     (λ c. search rules)
     (λ c. search rules)
     (λ c κs. search rules)
     (λ c. search rules)
     (λ c. search rules)
-    (λ c. search waiting-within)
+    (λ c. search waiting_within)
     (λ c κs. search rules)
     (λ c. search line_kept)
     (λ c. search store_kept)
-    (λ c. search buffer-kept)
-    (λ c. search out-kept)
+    (λ c. search buffer_kept)
+    (λ c. search out_kept)
     (λ c. search not_written)
     (λ c. search next_fits)
-    (λ c. search fewer-left)
-    (λ c. search hearing-goes-on)
+    (λ c. search fewer_left)
+    (λ c. search hearing_goes_on)
     (λ c. search rules)
     (λ c. search rules)
     (λ c. search rules)
     (λ c. search rules)
-    (λ c. search all-heard))
+    (λ c. search all_heard))

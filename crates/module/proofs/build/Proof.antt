@@ -2,25 +2,25 @@
 -- room. Assumes nothing.
 use native.Mathlib.Omega.{arith}
 use borrow.Author.Rules.{rules}
-use Rattle.sections.proofs.Listed.{total-few}
-use Rattle.module.proofs.Finishing.{frames-there, unframed-refused, short-refused, header-behind, sections-room, module-fits, module-kept, module-written}
+use Rattle.sections.proofs.Listed.{total_few}
+use Rattle.module.proofs.Finishing.{frames_there, unframed_refused, short_refused, header_behind, sections_room, module_fits, module_kept, module_written}
 use Rattle.module.proofs.build.Statement.{statement}
 use Rattle.module.proofs.build.Tie as tie
 
-pub build-spec : {M : Type 1} → statement M
-build-spec =
+pub build_spec : {M : Type 1} → statement M
+build_spec =
     tie.close
     (tie.spec
     (λ c κs. search rules)
-    (λ c. search unframed-refused)
-    (λ c κs. (search rules, (search rules, search total-few)))
+    (λ c. search unframed_refused)
+    (λ c κs. (search rules, (search rules, search total_few)))
     (λ c. omega (arith, c.sections-len.ensures.1))
-    (λ c. search short-refused)
+    (λ c. search short_refused)
     (λ c κs. search rules)
-    (λ c. search header-behind)
-    (λ c. search header-behind)
+    (λ c. search header_behind)
+    (λ c. search header_behind)
     (λ c. search rules)
-    (λ c κs. (search rules, ((search rules, search frames-there), (search rules, search sections-room))))
-    (λ c. search module-fits)
-    (λ c. search module-kept)
-    (λ c. search module-written))
+    (λ c κs. (search rules, ((search rules, search frames_there), (search rules, search sections_room))))
+    (λ c. search module_fits)
+    (λ c. search module_kept)
+    (λ c. search module_written))

@@ -2,9 +2,9 @@
 use mathlib.Core.Path.{refl, ap}
 use native.Mathlib.Omega.{arith}
 use borrow.Author.Rules.{rules}
-use Rattle.format.specs.Count.{adds-seq, adds-eq}
+use Rattle.format.specs.Count.{adds_seq, adds_eq}
 use Rattle.leb128.specs.Leb.{uleb}
-use Rattle.texts.specs.Text.{past-small}
+use Rattle.texts.specs.Text.{past_small}
 use Rattle.texts.proofs.append_data.Statement.{statement}
 use Rattle.texts.proofs.append_data.Tie as tie
 
@@ -12,8 +12,8 @@ returns : tie.Need-returns
 returns c =
     let f = c.before.before.before.before.before.before in
     let a = f.before.before.before.before.before.args in
-    let n = adds-eq (ap uleb f.before.before.held.ensures) refl f.append-u32.ensures in
-    adds-eq refl (omega (arith, past-small a.text.now a.at)) (adds-seq n c.before.before.append-slice.ensures)
+    let n = adds_eq (ap uleb f.before.before.held.ensures) refl f.append-u32.ensures in
+    adds_eq refl (omega (arith, past_small a.text.now a.at)) (adds_seq n c.before.before.append-slice.ensures)
 
-pub append-data-spec : {M : Type 1} → statement M
-append-data-spec = tie.close (tie.spec (λ c κs. search rules) (λ c κs. search rules) (λ c κs. search rules) (λ c. search rules) returns)
+pub append_data_spec : {M : Type 1} → statement M
+append_data_spec = tie.close (tie.spec (λ c κs. search rules) (λ c κs. search rules) (λ c κs. search rules) (λ c. search rules) returns)

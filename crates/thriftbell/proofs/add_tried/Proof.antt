@@ -1,33 +1,33 @@
 -- `thriftbell::add_tried` meets its contract. Assumes nothing.
 use borrow.Author.Rules.{rules}
-use Rattle.thriftbell.proofs.Adding.{over-refused, record-refused, state-within, few_bytes, full-refused, accepted, frame-added}
+use Rattle.thriftbell.proofs.Adding.{over_refused, record_refused, state_within, few_bytes, full_refused, accepted, frame_added}
 use Rattle.thriftbell.proofs.add_tried.Statement.{statement}
 use Rattle.thriftbell.proofs.add_tried.Tie as tie
 
-put-frame-requires : tie.Need-put-frame-requires
-put-frame-requires c κs =
+put_frame_requires : tie.Need-put-frame-requires
+put_frame_requires c κs =
     let j : tie.After-judge = search in
     let f : tie.After-is-full = search in
-    accepted j.judge.ensures j.judge.kept.1.1.0 (search) (search state-within) f.is-full.ensures (search)
+    accepted j.judge.ensures j.judge.kept.1.1.0 (search) (search state_within) f.is-full.ensures (search)
 
-pub add-tried-spec : {M : Type 1} → statement M
-add-tried-spec =
+pub add_tried_spec : {M : Type 1} → statement M
+add_tried_spec =
     tie.close
     (tie.spec
     (λ c κs. search rules)
     (λ c. search rules)
-    (λ c. search over-refused)
+    (λ c. search over_refused)
     (λ c κs. search rules)
     (λ c. search rules)
     (λ c. search rules)
     (λ c. search rules)
-    (λ c. search record-refused)
+    (λ c. search record_refused)
     (λ c. search rules)
-    (λ c κs. search (state-within, few_bytes))
-    (λ c. search rules)
-    (λ c. search rules)
-    (λ c. search full-refused)
-    put-frame-requires
+    (λ c κs. search (state_within, few_bytes))
     (λ c. search rules)
     (λ c. search rules)
-    (λ c. search frame-added depth 2))
+    (λ c. search full_refused)
+    put_frame_requires
+    (λ c. search rules)
+    (λ c. search rules)
+    (λ c. search frame_added depth 2))

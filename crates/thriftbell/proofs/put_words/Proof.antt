@@ -1,11 +1,11 @@
 -- `thriftbell::put_words` meets its contract. Assumes nothing.
 use borrow.Author.Rules.{rules}
-use Rattle.thriftbell.proofs.Reading.{words_copied, words-walked}
+use Rattle.thriftbell.proofs.Reading.{words_copied, words_walked}
 use Rattle.thriftbell.proofs.put_words.Statement.{statement}
 use Rattle.thriftbell.proofs.put_words.Tie as tie
 
-pub put-words-spec : {M : Type 1} → statement M
-put-words-spec =
+pub put_words_spec : {M : Type 1} → statement M
+put_words_spec =
     tie.close
     (tie.spec
     (λ c. search rules)
@@ -17,4 +17,4 @@ put-words-spec =
     (λ c κs. search rules)
     (λ c κs. search rules)
     (λ c. search rules)
-    (λ c. search words-walked))
+    (λ c. search words_walked))

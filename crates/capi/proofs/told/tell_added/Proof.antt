@@ -6,5 +6,5 @@ use Rattle.capi.proofs.told.tell_added.Tie as tie
 returns : tie.Need-returns
 returns c = λ store. refl
 
-pub tell-added-spec : {M : Type 1} → statement M
-tell-added-spec = tie.close (tie.spec returns)
+pub tell_added_spec : {M : Type 1} → statement M
+tell_added_spec = tie.close (tie.spec returns)

@@ -12,5 +12,5 @@ returns c = λ out. sym (ap (λ (f : Finished). outcome f out) c.before.f.given.
 returns-2 : tie.Need-returns-2
 returns-2 c = λ out. sym (ap (λ (f : Finished). outcome f out) c.before.f2.given.1)
 
-pub tell-finished-spec : {M : Type 1} → statement M
-tell-finished-spec = tie.close (tie.spec (λ c. search rules) (λ c. search rules) returns returns-2)
+pub tell_finished_spec : {M : Type 1} → statement M
+tell_finished_spec = tie.close (tie.spec (λ c. search rules) (λ c. search rules) returns returns-2)

@@ -13,5 +13,5 @@ returns c = λ store buffer out. sym (ap (λ (l : Written). numbered (lined l c.
 returns-2 : tie.Need-returns-2
 returns-2 c = λ store buffer out. sym (ap (λ (l : Written). numbered (lined l c.before.before.before.args.a.state store buffer out)) c.enum_told.given.1)
 
-pub tell-reply-spec : {M : Type 1} → statement M
-tell-reply-spec = tie.close (tie.spec (λ c. search rules) (λ c. search rules) returns returns-2)
+pub tell_reply_spec : {M : Type 1} → statement M
+tell_reply_spec = tie.close (tie.spec (λ c. search rules) (λ c. search rules) returns returns-2)

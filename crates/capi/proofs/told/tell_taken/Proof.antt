@@ -12,5 +12,5 @@ returns c = λ out. sym (ap (λ (t : Taken). outcome t out) c.before.t.given.1)
 returns-2 : tie.Need-returns-2
 returns-2 c = λ out. sym (ap (λ (t : Taken). outcome t out) c.before.t2.given.1)
 
-pub tell-taken-spec : {M : Type 1} → statement M
-tell-taken-spec = tie.close (tie.spec (λ c. search rules) (λ c. search rules) returns returns-2)
+pub tell_taken_spec : {M : Type 1} → statement M
+tell_taken_spec = tie.close (tie.spec (λ c. search rules) (λ c. search rules) returns returns-2)

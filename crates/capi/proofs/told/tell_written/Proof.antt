@@ -12,5 +12,5 @@ returns c = λ out. sym (ap (λ (w : Written). outcome w out) c.enum_told.given.
 returns-2 : tie.Need-returns-2
 returns-2 c = λ out. sym (ap (λ (w : Written). outcome w out) c.before.w.given.1)
 
-pub tell-written-spec : {M : Type 1} → statement M
-tell-written-spec = tie.close (tie.spec (λ c. search rules) (λ c. search rules) returns returns-2)
+pub tell_written_spec : {M : Type 1} → statement M
+tell_written_spec = tie.close (tie.spec (λ c. search rules) (λ c. search rules) returns returns-2)

@@ -5,8 +5,8 @@ use borrow.Author.Rules.{rules}
 use Rattle.composites.proofs.reader.read_cont.Statement.{statement}
 use Rattle.composites.proofs.reader.read_cont.Tie as tie
 
-pub read-cont-spec : {M : Type 1} → statement M
-read-cont-spec =
+pub read_cont_spec : {M : Type 1} → statement M
+read_cont_spec =
     tie.close
     (tie.spec
     (λ c κs. search rules)

@@ -1,19 +1,19 @@
 -- `composites::reader::read_func` meets its contract: the parameters, and then the results. Assumes nothing.
-use Rattle.format.specs.Sequence.{first-missing, second-follows}
-use Rattle.composites.proofs.Inner.{func-read}
+use Rattle.format.specs.Sequence.{first_missing, second_follows}
+use Rattle.composites.proofs.Inner.{func_read}
 use borrow.Author.Rules.{rules}
 use Rattle.composites.proofs.reader.read_func.Statement.{statement}
 use Rattle.composites.proofs.reader.read_func.Tie as tie
 
-pub read-func-spec : {M : Type 1} → statement M
-read-func-spec =
+pub read_func_spec : {M : Type 1} → statement M
+read_func_spec =
     tie.close
     (tie.spec
     (λ c κs. search rules)
     (λ c. search rules)
     (λ c. search rules)
     (λ c. search rules)
-    (λ c. search (first-missing func-read))
+    (λ c. search (first_missing func_read))
     (λ c κs. search rules)
     (λ c. search rules)
-    (λ c. search (second-follows func-read)))
+    (λ c. search (second_follows func_read)))

@@ -5,8 +5,8 @@ use borrow.Author.Rules.{rules}
 use Rattle.composites.proofs.writer.walk_cont.Statement.{statement}
 use Rattle.composites.proofs.writer.walk_cont.Tie as tie
 
-pub walk-cont-spec : {M : Type 1} → statement M
-walk-cont-spec =
+pub walk_cont_spec : {M : Type 1} → statement M
+walk_cont_spec =
     tie.close
     (tie.spec
     (λ c. search nothing_left)

@@ -1,20 +1,20 @@
 -- `data::reader::walk_bytes` meets its contract: where the data goes, and the data. Assumes nothing.
 use Rattle.parts.specs.Text.{content}
-use Rattle.parts.specs.Reading.{part-missing, part-follows}
+use Rattle.parts.specs.Reading.{part_missing, part_follows}
 use Rattle.data.specs.Target.{target}
 use borrow.Author.Rules.{rules}
 use Rattle.data.proofs.reader.walk_bytes.Statement.{statement}
 use Rattle.data.proofs.reader.walk_bytes.Tie as tie
 
-pub walk-bytes-spec : {M : Type 1} → statement M
-walk-bytes-spec =
+pub walk_bytes_spec : {M : Type 1} → statement M
+walk_bytes_spec =
     tie.close
     (tie.spec
     (λ c κs. search rules)
     (λ c. search rules)
     (λ c. search rules)
     (λ c. search rules)
-    (λ c. search (part-missing target content))
+    (λ c. search (part_missing target content))
     (λ c κs. search rules)
     (λ c. search rules)
-    (λ c. search (part-follows target content)))
+    (λ c. search (part_follows target content)))

@@ -1,11 +1,11 @@
 -- `data::writer::walk_active` meets its contract: a memory and a span. Assumes nothing.
-use Rattle.data.proofs.Targets.{active-there}
+use Rattle.data.proofs.Targets.{active_there}
 use borrow.Author.Rules.{rules}
 use Rattle.data.proofs.writer.walk_active.Statement.{statement}
 use Rattle.data.proofs.writer.walk_active.Tie as tie
 
-pub walk-active-spec : {M : Type 1} → statement M
-walk-active-spec =
+pub walk_active_spec : {M : Type 1} → statement M
+walk_active_spec =
     tie.close
     (tie.spec
     (λ c. search rules)
@@ -20,4 +20,4 @@ walk-active-spec =
     (λ c. search rules)
     (λ c κs. search rules)
     (λ c. search rules)
-    (λ c. search active-there))
+    (λ c. search active_there))

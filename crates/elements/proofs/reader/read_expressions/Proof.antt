@@ -1,11 +1,11 @@
 -- `elements::reader::read_expressions` meets its contract: the type, and the list of expressions. Assumes nothing.
-use Rattle.elements.proofs.Lists.{type-not-read, typed-reads, funcrefs-read}
+use Rattle.elements.proofs.Lists.{type_not_read, typed_reads, funcrefs_read}
 use borrow.Author.Rules.{rules}
 use Rattle.elements.proofs.reader.read_expressions.Statement.{statement}
 use Rattle.elements.proofs.reader.read_expressions.Tie as tie
 
-pub read-expressions-spec : {M : Type 1} → statement M
-read-expressions-spec =
+pub read_expressions_spec : {M : Type 1} → statement M
+read_expressions_spec =
     tie.close
     (tie.spec
     (λ c κs. search rules)
@@ -13,11 +13,11 @@ read-expressions-spec =
     (λ c. search rules)
     (λ c. search rules)
     (λ c. search rules)
-    (λ c. search type-not-read)
+    (λ c. search type_not_read)
     (λ c κs. search rules)
     (λ c. search rules)
-    (λ c. search typed-reads)
+    (λ c. search typed_reads)
     (λ c κs. search rules)
     (λ c. search rules)
     (λ c. search rules)
-    (λ c. search funcrefs-read))
+    (λ c. search funcrefs_read))

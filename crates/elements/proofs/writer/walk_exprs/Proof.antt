@@ -2,14 +2,14 @@
 use Rattle.format.specs.Walk.{nothing_left}
 use Rattle.parts.specs.Text.{expression}
 use Rattle.words.specs.WordWalks.{word_fits}
-use Rattle.parts.specs.ListWalks.{list-larger, list-writes}
+use Rattle.parts.specs.ListWalks.{list_larger, list_writes}
 use Rattle.elements.proofs.Lists.{word_each}
 use borrow.Author.Rules.{rules}
 use Rattle.elements.proofs.writer.walk_exprs.Statement.{statement}
 use Rattle.elements.proofs.writer.walk_exprs.Tie as tie
 
-pub walk-exprs-spec : {M : Type 1} → statement M
-walk-exprs-spec =
+pub walk_exprs_spec : {M : Type 1} → statement M
+walk_exprs_spec =
     tie.close
     (tie.spec
     (λ c. search nothing_left)
@@ -18,10 +18,10 @@ walk-exprs-spec =
     (λ c. search rules)
     (λ c. search rules)
     (λ c. search word_fits)
-    (λ c. search (list-larger expression word_each))
+    (λ c. search (list_larger expression word_each))
     (λ c κs. search rules)
     (λ c. search rules)
     (λ c. search rules)
     (λ c κs. search rules)
     (λ c. search rules)
-    (λ c. search (list-writes expression word_each)))
+    (λ c. search (list_writes expression word_each)))

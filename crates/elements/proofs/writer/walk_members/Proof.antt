@@ -1,7 +1,7 @@
 -- `elements::writer::walk_members` meets its contract: the loop has walked some members, and the others are left. Assumes nothing.
-use Rattle.format.specs.Loop.{loop-starts, loop-done}
+use Rattle.format.specs.Loop.{loop_starts, loop_done}
 use Rattle.parts.specs.Text.{expression}
-use Rattle.parts.specs.ListWalks.{writing-stops, writing-goes-on, WritingOn}
+use Rattle.parts.specs.ListWalks.{writing_stops, writing_goes_on, WritingOn}
 use borrow.Author.Rules.{rules}
 use Rattle.elements.proofs.writer.walk_members.Statement.{statement}
 use Rattle.elements.proofs.writer.walk_members.Tie as tie
@@ -12,20 +12,20 @@ invariant-loop n words at text out₀ t₀ p₀ left₀ out t p left = WritingOn
 abbrev decreases-loop : tie.decreases-loop
 decreases-loop n words at text out₀ t₀ p₀ left₀ out t p left = left
 
-pub walk-members-spec : {M : Type 1} → statement M
-walk-members-spec =
+pub walk_members_spec : {M : Type 1} → statement M
+walk_members_spec =
     tie.close
     (tie.spec
     invariant-loop
     decreases-loop
-    (λ c. search loop-starts)
+    (λ c. search loop_starts)
     (λ c κs. search rules)
     (λ c. search rules)
     (λ c. search rules)
     (λ c. cc)
-    (λ c. search (writing-stops expression))
+    (λ c. search (writing_stops expression))
     (λ c. search rules)
     (λ c. search rules)
-    (λ c. search (writing-goes-on expression))
+    (λ c. search (writing_goes_on expression))
     (λ c. search rules)
-    (λ c. search loop-done))
+    (λ c. search loop_done))

@@ -5,8 +5,8 @@ use borrow.Author.Rules.{rules}
 use Rattle.groups.proofs.reader.walk_bytes.Statement.{statement}
 use Rattle.groups.proofs.reader.walk_bytes.Tie as tie
 
-pub walk-bytes-spec : {M : Type 1} → statement M
-walk-bytes-spec =
+pub walk_bytes_spec : {M : Type 1} → statement M
+walk_bytes_spec =
     tie.close
     (tie.spec
     (λ c. search nothing_left)

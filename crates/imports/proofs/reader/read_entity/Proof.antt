@@ -1,13 +1,13 @@
 -- `imports::reader::read_entity` meets its contract: each sort by its own walk. Assumes nothing.
 use Rattle.format.specs.Walk.{nothing_left}
-use Rattle.imports.specs.Entity.{function, ofTable, ofMemory, ofGlobal, ofTag, exact}
-use Rattle.imports.proofs.Entities.{byte_fits, sort-reads, no-sort-reads}
+use Rattle.imports.specs.Entity.{function, of_table, of_memory, of_global, of_tag, exact}
+use Rattle.imports.proofs.Entities.{byte_fits, sort_reads, no_sort_reads}
 use borrow.Author.Rules.{rules}
 use Rattle.imports.proofs.reader.read_entity.Statement.{statement}
 use Rattle.imports.proofs.reader.read_entity.Tie as tie
 
-pub read-entity-spec : {M : Type 1} → statement M
-read-entity-spec =
+pub read_entity_spec : {M : Type 1} → statement M
+read_entity_spec =
     tie.close
     (tie.spec
     (λ c. search nothing_left)
@@ -27,16 +27,16 @@ read-entity-spec =
     (λ c. search rules)
     (λ c. search rules)
     (λ c. search rules)
-    (λ c. search (sort-reads function))
+    (λ c. search (sort_reads function))
     (λ c. search rules)
-    (λ c. search (sort-reads ofTable))
+    (λ c. search (sort_reads of_table))
     (λ c. search rules)
-    (λ c. search (sort-reads ofMemory))
+    (λ c. search (sort_reads of_memory))
     (λ c. search rules)
-    (λ c. search (sort-reads ofGlobal))
+    (λ c. search (sort_reads of_global))
     (λ c. search rules)
-    (λ c. search (sort-reads ofTag))
+    (λ c. search (sort_reads of_tag))
     (λ c. search rules)
-    (λ c. search (sort-reads exact))
+    (λ c. search (sort_reads exact))
     (λ c. search rules)
-    (λ c. search no-sort-reads))
+    (λ c. search no_sort_reads))

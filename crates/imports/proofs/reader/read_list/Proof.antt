@@ -1,24 +1,24 @@
 -- `imports::reader::read_list` meets its contract: the count, and then so many members. Assumes nothing.
 use Rattle.leb128.specs.Formats.{u32}
-use Rattle.numbers.specs.Decoded.{number-place}
-use Rattle.imports.proofs.Members.{list-not-read, list-too-large, list-reads}
+use Rattle.numbers.specs.Decoded.{number_place}
+use Rattle.imports.proofs.Members.{list_not_read, list_too_large, list_reads}
 use borrow.Author.Rules.{rules}
 use Rattle.imports.proofs.reader.read_list.Statement.{statement}
 use Rattle.imports.proofs.reader.read_list.Tie as tie
 
-pub read-list-spec : {M : Type 1} → statement M
-read-list-spec =
+pub read_list_spec : {M : Type 1} → statement M
+read_list_spec =
     tie.close
     (tie.spec
     (λ c κs. search rules)
     (λ c. search rules)
     (λ c. search rules)
-    (λ c. search list-not-read)
-    (λ c. search (number-place u32))
+    (λ c. search list_not_read)
+    (λ c. search (number_place u32))
     (λ c. search rules)
-    (λ c. search list-too-large)
+    (λ c. search list_too_large)
     (λ c κs. search rules)
     (λ c. search rules)
-    (λ c κs. (search (number-place u32), search rules))
+    (λ c κs. (search (number_place u32), search rules))
     (λ c. search rules)
-    (λ c. search list-reads))
+    (λ c. search list_reads))

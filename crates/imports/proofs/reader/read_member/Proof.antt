@@ -5,8 +5,8 @@ use borrow.Author.Rules.{rules}
 use Rattle.imports.proofs.reader.read_member.Statement.{statement}
 use Rattle.imports.proofs.reader.read_member.Tie as tie
 
-pub read-member-spec : {M : Type 1} → statement M
-read-member-spec =
+pub read_member_spec : {M : Type 1} → statement M
+read_member_spec =
     tie.close
     (tie.spec
     (λ c. search rules)

@@ -1,16 +1,16 @@
 -- `imports::writer::walk_compact2` meets its contract: two bytes, an entity, and a list. Assumes nothing.
 use Rattle.parts.specs.Both.{both}
 use Rattle.parts.specs.Listed.{listed}
-use Rattle.parts.specs.Writing.{textless-missing, follows-textless, behind-two}
-use Rattle.imports.specs.Entity.{entityWords, entityBytes, entity-agree, entity}
+use Rattle.parts.specs.Writing.{textless_missing, follows_textless, behind_two}
+use Rattle.imports.specs.Entity.{entity_words, entity_bytes, entity_agree, entity}
 use Rattle.imports.specs.Forms.{member}
 use Rattle.imports.specs.declared.Member.TheVariants.{Name}
 use borrow.Author.Rules.{rules}
 use Rattle.imports.proofs.writer.walk_compact2.Statement.{statement}
 use Rattle.imports.proofs.writer.walk_compact2.Tie as tie
 
-pub walk-compact2-spec : {M : Type 1} → statement M
-walk-compact2-spec =
+pub walk_compact2_spec : {M : Type 1} → statement M
+walk_compact2_spec =
     tie.close
     (tie.spec
     (λ c κs. search rules)
@@ -19,7 +19,7 @@ walk-compact2-spec =
     (λ c. search rules)
     (λ c. search rules)
     (λ c. search rules)
-    (λ c. search (behind-two 0x00 0x7E (both entity (listed (member Name))), textless-missing entityWords entityBytes entity-agree (listed (member Name))))
+    (λ c. search (behind_two 0x00 0x7E (both entity (listed (member Name))), textless_missing entity_words entity_bytes entity_agree (listed (member Name))))
     (λ c κs. search rules)
     (λ c. search rules)
-    (λ c. search (behind-two 0x00 0x7E (both entity (listed (member Name))), follows-textless entityWords entityBytes entity-agree (listed (member Name)))))
+    (λ c. search (behind_two 0x00 0x7E (both entity (listed (member Name))), follows_textless entity_words entity_bytes entity_agree (listed (member Name)))))

@@ -1,19 +1,19 @@
 -- `imports::writer::walk_entity` meets its contract: each sort by its own walk. Assumes nothing.
 use Rattle.format.specs.Walk.{nothing_left}
-use Rattle.imports.specs.Entity.{function, ofTable, ofMemory, ofGlobal, ofTag, exact}
-use Rattle.imports.proofs.Entities.{sort-writes, large-sort, no-sort-writes}
+use Rattle.imports.specs.Entity.{function, of_table, of_memory, of_global, of_tag, exact}
+use Rattle.imports.proofs.Entities.{sort_writes, large_sort, no_sort_writes}
 use borrow.Author.Rules.{rules}
 use Rattle.imports.proofs.writer.walk_entity.Statement.{statement}
 use Rattle.imports.proofs.writer.walk_entity.Tie as tie
 
-pub walk-entity-spec : {M : Type 1} → statement M
-walk-entity-spec =
+pub walk_entity_spec : {M : Type 1} → statement M
+walk_entity_spec =
     tie.close
     (tie.spec
     (λ c. search nothing_left)
     (λ c. search rules)
     (λ c. search rules)
-    (λ c. search large-sort)
+    (λ c. search large_sort)
     (λ c. search rules)
     (λ c κs. search rules)
     (λ c. search rules)
@@ -29,16 +29,16 @@ walk-entity-spec =
     (λ c. search rules)
     (λ c. search rules)
     (λ c. search rules)
-    (λ c. search (sort-writes function))
+    (λ c. search (sort_writes function))
     (λ c. search rules)
-    (λ c. search (sort-writes ofTable))
+    (λ c. search (sort_writes of_table))
     (λ c. search rules)
-    (λ c. search (sort-writes ofMemory))
+    (λ c. search (sort_writes of_memory))
     (λ c. search rules)
-    (λ c. search (sort-writes ofGlobal))
+    (λ c. search (sort_writes of_global))
     (λ c. search rules)
-    (λ c. search (sort-writes ofTag))
+    (λ c. search (sort_writes of_tag))
     (λ c. search rules)
-    (λ c. search (sort-writes exact))
+    (λ c. search (sort_writes exact))
     (λ c. search rules)
-    (λ c. search no-sort-writes))
+    (λ c. search no_sort_writes))

@@ -6,5 +6,5 @@ use Rattle.leb128.proofs.reader.sign.Tie as tie
 returns : tie.Need-returns
 returns c = rw c.if1.true
 
-pub sign-spec : {M : Type 1} → statement M
-sign-spec = tie.close (tie.spec returns (λ c. search rules))
+pub sign_spec : {M : Type 1} → statement M
+sign_spec = tie.close (tie.spec returns (λ c. search rules))

@@ -1,21 +1,21 @@
 -- `limits::writer::walk_limits` meets its contract. Assumes nothing.
 use Rattle.format.specs.Walk.{nothing_left}
-use Rattle.limits.proofs.Limits.{ofWords, flags-large, sizes-follow}
+use Rattle.limits.proofs.Limits.{of_words, flags_large, sizes_follow}
 use borrow.Author.Rules.{rules}
 use Rattle.limits.proofs.writer.walk_limits.Statement.{statement}
 use Rattle.limits.proofs.writer.walk_limits.Tie as tie
 
-pub walk-limits-spec : {M : Type 1} → statement M
-walk-limits-spec =
+pub walk_limits_spec : {M : Type 1} → statement M
+walk_limits_spec =
     tie.close
     (tie.spec
     (λ c. search nothing_left)
     (λ c. search rules)
     (λ c. search rules)
-    (λ c. search (flags-large ofWords))
+    (λ c. search (flags_large of_words))
     (λ c. search rules)
     (λ c κs. search rules)
     (λ c. search rules)
     (λ c κs. search rules)
     (λ c. search rules)
-    (λ c. search (sizes-follow ofWords)))
+    (λ c. search (sizes_follow of_words)))

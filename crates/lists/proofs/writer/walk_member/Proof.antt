@@ -1,13 +1,13 @@
 -- `lists::writer::walk_member` meets its contract: each kind of member by its own walk. Assumes nothing.
-use Rattle.lists.specs.Member.{memberWords, memberBytes}
+use Rattle.lists.specs.Member.{member_words, member_bytes}
 use Rattle.lists.proofs.Members.{as_member}
 use Rattle.lists.specs.declared.Member.TheVariants.{Index, Val, Field}
 use borrow.Author.Rules.{rules}
 use Rattle.lists.proofs.writer.walk_member.Statement.{statement}
 use Rattle.lists.proofs.writer.walk_member.Tie as tie
 
-pub walk-member-spec : {M : Type 1} → statement M
-walk-member-spec =
+pub walk_member_spec : {M : Type 1} → statement M
+walk_member_spec =
     tie.close
     (tie.spec
     (λ c. search rules)
@@ -17,8 +17,8 @@ walk-member-spec =
     (λ c. search rules)
     (λ c κs. search rules)
     (λ c. search rules)
-    (λ c. search (as_member memberWords memberBytes Index))
+    (λ c. search (as_member member_words member_bytes Index))
     (λ c. search rules)
-    (λ c. search (as_member memberWords memberBytes Val))
+    (λ c. search (as_member member_words member_bytes Val))
     (λ c. search rules)
-    (λ c. search (as_member memberWords memberBytes Field)))
+    (λ c. search (as_member member_words member_bytes Field)))

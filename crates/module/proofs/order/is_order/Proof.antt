@@ -2,7 +2,7 @@
 use Prim.Native.Nat.{◌-◌}
 use lib.ListN.{length}
 use borrow.Author.Rules.{rules}
-use Rattle.module.proofs.Looking.{Looked, looked-none, looked-more, looked-stop, looked-all}
+use Rattle.module.proofs.Looking.{Looked, looked_none, looked_more, looked_stop, looked_all}
 use Rattle.module.proofs.order.is_order.Statement.{statement}
 use Rattle.module.proofs.order.is_order.Tie as tie
 
@@ -12,17 +12,17 @@ invariant-loop order i₀ i = Looked order i
 abbrev decreases-loop : tie.decreases-loop
 decreases-loop order i₀ i = length order - i
 
-pub is-order-spec : {M : Type 1} → statement M
-is-order-spec =
+pub is_order_spec : {M : Type 1} → statement M
+is_order_spec =
     tie.close
     (tie.spec
     invariant-loop
     decreases-loop
-    (λ c. search looked-none)
+    (λ c. search looked_none)
     (λ c. search rules)
     (λ c κs. search rules)
     (λ c. search rules)
     (λ c. search rules)
-    (λ c. search looked-more)
-    (λ c. search looked-stop)
-    (λ c. search looked-all))
+    (λ c. search looked_more)
+    (λ c. search looked_stop)
+    (λ c. search looked_all))

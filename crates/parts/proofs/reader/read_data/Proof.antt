@@ -2,13 +2,13 @@
 use Rattle.format.specs.Sized.{sized}
 use Rattle.leb128.specs.Formats.{u32}
 use Rattle.texts.specs.Text.{plain}
-use Rattle.texts.specs.Place.{sizedAt}
-use Rattle.parts.specs.Text.{plainHolds}
-use Rattle.parts.specs.Reading.{text-reads}
-use Rattle.parts.proofs.Texts.{sized-ends}
+use Rattle.texts.specs.Place.{sized_at}
+use Rattle.parts.specs.Text.{plain_holds}
+use Rattle.parts.specs.Reading.{text_reads}
+use Rattle.parts.proofs.Texts.{sized_ends}
 use borrow.Author.Rules.{rules}
 use Rattle.parts.proofs.reader.read_data.Statement.{statement}
 use Rattle.parts.proofs.reader.read_data.Tie as tie
 
-pub read-data-spec : {M : Type 1} → statement M
-read-data-spec = tie.close (tie.spec (λ c κs. search rules) (λ c κs. search rules) (λ c. search rules) (λ c. search (text-reads plain (sized u32) sizedAt plainHolds sized-ends)))
+pub read_data_spec : {M : Type 1} → statement M
+read_data_spec = tie.close (tie.spec (λ c κs. search rules) (λ c κs. search rules) (λ c. search rules) (λ c. search (text_reads plain (sized u32) sized_at plain_holds sized_ends)))

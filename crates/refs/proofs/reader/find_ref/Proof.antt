@@ -1,11 +1,11 @@
 -- `refs::reader::find_ref` meets its contract. Assumes nothing.
-use Rattle.refs.proofs.Bytes.{no_ref, non-null-found, null-found, alone-found}
+use Rattle.refs.proofs.Bytes.{no_ref, non_null_found, null_found, alone_found}
 use borrow.Author.Rules.{rules}
 use Rattle.refs.proofs.reader.find_ref.Statement.{statement}
 use Rattle.refs.proofs.reader.find_ref.Tie as tie
 
-pub find-ref-spec : {M : Type 1} → statement M
-find-ref-spec =
+pub find_ref_spec : {M : Type 1} → statement M
+find_ref_spec =
     tie.close
     (tie.spec
     (λ c. search no_ref)
@@ -13,11 +13,11 @@ find-ref-spec =
     (λ c. search rules)
     (λ c κs. search rules)
     (λ c κs. search rules)
-    (λ c. search non-null-found)
+    (λ c. search non_null_found)
     (λ c. search rules)
     (λ c κs. search rules)
     (λ c κs. search rules)
-    (λ c. search null-found)
+    (λ c. search null_found)
     (λ c κs. search rules)
     (λ c κs. search rules)
-    (λ c. search alone-found))
+    (λ c. search alone_found))

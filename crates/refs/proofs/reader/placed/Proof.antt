@@ -3,5 +3,5 @@ use borrow.Author.Rules.{rules}
 use Rattle.refs.proofs.reader.placed.Statement.{statement}
 use Rattle.refs.proofs.reader.placed.Tie as tie
 
-pub placed-spec : {M : Type 1} → statement M
-placed-spec = tie.close (tie.spec (λ c. search rules) (λ c. search rules) (λ c. cc) (λ c. search rules))
+pub placed_spec : {M : Type 1} → statement M
+placed_spec = tie.close (tie.spec (λ c. search rules) (λ c. search rules) (λ c. cc) (λ c. search rules))

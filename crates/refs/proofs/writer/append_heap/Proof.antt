@@ -1,11 +1,11 @@
 -- `refs::writer::append_heap` meets its contract. Assumes nothing.
-use Rattle.refs.proofs.Heaps.{shared_added, unshared-added, concrete-added, exact-added}
+use Rattle.refs.proofs.Heaps.{shared_added, unshared_added, concrete_added, exact_added}
 use borrow.Author.Rules.{rules}
 use Rattle.refs.proofs.writer.append_heap.Statement.{statement}
 use Rattle.refs.proofs.writer.append_heap.Tie as tie
 
-pub append-heap-spec : {M : Type 1} → statement M
-append-heap-spec =
+pub append_heap_spec : {M : Type 1} → statement M
+append_heap_spec =
     tie.close
     (tie.spec
     (λ c. search rules)
@@ -22,8 +22,8 @@ append-heap-spec =
     (λ c κs. search rules)
     (λ c κs. search rules)
     (λ c. search rules)
-    (λ c. search unshared-added)
+    (λ c. search unshared_added)
     (λ c. search rules)
-    (λ c. search concrete-added)
+    (λ c. search concrete_added)
     (λ c. search rules)
-    (λ c. search exact-added))
+    (λ c. search exact_added))

@@ -1,11 +1,11 @@
 -- `replies::input::gather` meets its contract. Assumes nothing.
 use borrow.Author.Rules.{rules}
-use Rattle.replies.proofs.Showing.{part-gathered}
+use Rattle.replies.proofs.Showing.{part_gathered}
 use Rattle.replies.proofs.input.gather.Statement.{statement}
 use Rattle.replies.proofs.input.gather.Tie as tie
 
-pub gather-spec : {M : Type 1} → statement M
-gather-spec =
+pub gather_spec : {M : Type 1} → statement M
+gather_spec =
     tie.close
     (tie.spec
     (λ c. search rules)
@@ -19,4 +19,4 @@ gather-spec =
     (λ c κs. search rules)
     (λ c. search rules)
     (λ c. search rules)
-    (λ c. search part-gathered))
+    (λ c. search part_gathered))

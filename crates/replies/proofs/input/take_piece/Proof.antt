@@ -3,7 +3,7 @@ use Prim.Native.Nat.{◌-◌}
 use native.Mathlib.Omega.{arith}
 use lib.ListN.{length}
 use borrow.Author.Rules.{rules}
-use Rattle.replies.proofs.Taking.{Taking, none-taken, all-taken, next_fits, fewer-left, part-ready, part-taken, part-waits, line-room, line_taken}
+use Rattle.replies.proofs.Taking.{Taking, none_taken, all_taken, next_fits, fewer_left, part_ready, part_taken, part_waits, line_room, line_taken}
 use Rattle.replies.proofs.input.take_piece.Statement.{statement}
 use Rattle.replies.proofs.input.take_piece.Tie as tie
 
@@ -13,13 +13,13 @@ invariant-loop piece line₀ store₀ buffer₀ out₀ run₀ i₀ line store bu
 abbrev decreases-loop : tie.decreases-loop
 decreases-loop piece line₀ store₀ buffer₀ out₀ run₀ i₀ line store buffer out run i = length piece - i
 
-pub take-piece-spec : {M : Type 1} → statement M
-take-piece-spec =
+pub take_piece_spec : {M : Type 1} → statement M
+take_piece_spec =
     tie.close
     (tie.spec
     invariant-loop
     decreases-loop
-    (λ c. search none-taken)
+    (λ c. search none_taken)
     (λ c κs. (omega arith, omega arith))
     (λ c. omega (arith, c.find.ensures.0))
     (λ c. omega (arith, c.find.ensures.0))
@@ -29,19 +29,19 @@ take-piece-spec =
     (λ c. search rules)
     (λ c. search rules)
     (λ c. search rules)
-    (λ c. search part-taken)
+    (λ c. search part_taken)
     (λ c. search rules)
     (λ c. search rules)
     (λ c. search rules)
     (λ c. search rules)
     (λ c. search rules)
-    (λ c. search part-waits)
-    (λ c κs. (search part-ready, search line-room))
+    (λ c. search part_waits)
+    (λ c κs. (search part_ready, search line_room))
     (λ c. search next_fits)
-    (λ c. search fewer-left)
+    (λ c. search fewer_left)
     (λ c. search line_taken)
     (λ c. search rules)
     (λ c. search rules)
     (λ c. search rules)
     (λ c. search rules)
-    (λ c. search all-taken))
+    (λ c. search all_taken))

@@ -1,11 +1,11 @@
 -- `replies::reply::end_line` meets its contract. Assumes nothing.
 use borrow.Author.Rules.{rules}
-use Rattle.replies.proofs.Showing.{line-ends}
+use Rattle.replies.proofs.Showing.{line_ends}
 use Rattle.replies.proofs.reply.end_line.Statement.{statement}
 use Rattle.replies.proofs.reply.end_line.Tie as tie
 
-pub end-line-spec : {M : Type 1} → statement M
-end-line-spec =
+pub end_line_spec : {M : Type 1} → statement M
+end_line_spec =
     tie.close
     (tie.spec
     (λ c. search rules)
@@ -15,4 +15,4 @@ end-line-spec =
     (λ c. search rules)
     (λ c. search rules)
     (λ c. search rules)
-    (λ c. search line-ends))
+    (λ c. search line_ends))

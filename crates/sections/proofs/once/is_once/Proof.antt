@@ -2,7 +2,7 @@
 use Prim.Native.Nat.{◌-◌}
 use lib.ListN.{length}
 use borrow.Author.Rules.{rules}
-use Rattle.sections.proofs.Listed.{next-below, next_fits, next-scaled}
+use Rattle.sections.proofs.Listed.{next_below, next_fits, next_scaled}
 use Rattle.sections.proofs.Seen.{Seen, seen_none, seen_more, seen_twice, seen_all}
 use Rattle.sections.proofs.once.is_once.Statement.{statement}
 use Rattle.sections.proofs.once.is_once.Tie as tie
@@ -13,8 +13,8 @@ invariant-loop order seen₀ j₀ seen j = Seen order seen j
 abbrev decreases-loop : tie.decreases-loop
 decreases-loop order seen₀ j₀ seen j = length order - j
 
-pub is-once-spec : {M : Type 1} → statement M
-is-once-spec =
+pub is_once_spec : {M : Type 1} → statement M
+is_once_spec =
     tie.close
     (tie.spec
     invariant-loop
@@ -22,11 +22,11 @@ is-once-spec =
     (λ c. search seen_none)
     (λ c. search rules)
     (λ c. search next_fits)
-    (λ c. search next-scaled)
-    (λ c. search next-below)
+    (λ c. search next_scaled)
+    (λ c. search next_below)
     (λ c. search seen_twice)
-    (λ c. search next-scaled)
-    (λ c. search next-below)
+    (λ c. search next_scaled)
+    (λ c. search next_below)
     (λ c. search rules)
     (λ c. search rules)
     (λ c. search seen_more)

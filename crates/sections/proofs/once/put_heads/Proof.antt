@@ -2,10 +2,10 @@
 use Prim.Native.Nat.{◌-◌}
 use lib.ListN.{length}
 use borrow.Author.Rules.{rules}
-use Rattle.format.specs.Write.{same-long}
-use Rattle.sections.proofs.Behind.{behind-starts, behind-fits}
-use Rattle.sections.proofs.Listed.{next-below, next_fits, next-scaled, next-few}
-use Rattle.sections.proofs.Heading.{Heading, heading-none, heading-room, heading-more, heading-fits, heading-all}
+use Rattle.format.specs.Write.{same_long}
+use Rattle.sections.proofs.Behind.{behind_starts, behind_fits}
+use Rattle.sections.proofs.Listed.{next_below, next_fits, next_scaled, next_few}
+use Rattle.sections.proofs.Heading.{Heading, heading_none, heading_room, heading_more, heading_fits, heading_all}
 use Rattle.sections.proofs.once.put_heads.Statement.{statement}
 use Rattle.sections.proofs.once.put_heads.Tie as tie
 
@@ -15,30 +15,30 @@ invariant-loop order given out₀ counts totals places₀ n₀ k₀ out places n
 abbrev decreases-loop : tie.decreases-loop
 decreases-loop order given out₀ counts totals places₀ n₀ k₀ out places n k = length order - k
 
-pub put-heads-spec : {M : Type 1} → statement M
-put-heads-spec =
+pub put_heads_spec : {M : Type 1} → statement M
+put_heads_spec =
     tie.close
     (tie.spec
     invariant-loop
     decreases-loop
-    (λ c. search heading-none)
+    (λ c. search heading_none)
     (λ c. search rules)
     (λ c. search next_fits)
-    (λ c. search next-scaled)
-    (λ c. search next-below)
-    (λ c. search next-scaled)
-    (λ c. search next-below)
+    (λ c. search next_scaled)
+    (λ c. search next_below)
+    (λ c. search next_scaled)
+    (λ c. search next_below)
     (λ c κs. search rules)
-    (λ c. search behind-starts)
-    (λ c. search behind-starts)
+    (λ c. search behind_starts)
+    (λ c. search behind_starts)
     (λ c. search rules)
-    (λ c κs. (search next-few, search heading-room))
-    (λ c. search behind-fits)
-    (λ c. search next-scaled)
-    (λ c. search next-below)
-    (λ c. search heading-fits)
+    (λ c κs. (search next_few, search heading_room))
+    (λ c. search behind_fits)
+    (λ c. search next_scaled)
+    (λ c. search next_below)
+    (λ c. search heading_fits)
     (λ c. search rules)
     (λ c. search rules)
-    (λ c. search heading-more)
-    (λ c. search same-long)
-    (λ c. search heading-all))
+    (λ c. search heading_more)
+    (λ c. search same_long)
+    (λ c. search heading_all))

@@ -1,19 +1,19 @@
 -- `tables::reader::read_global_type` meets its contract: a value type, and whether it is mutable. Assumes nothing.
-use Rattle.format.specs.Sequence.{first-missing, second-follows}
-use Rattle.tables.proofs.Tables.{global-read}
+use Rattle.format.specs.Sequence.{first_missing, second_follows}
+use Rattle.tables.proofs.Tables.{global_read}
 use borrow.Author.Rules.{rules}
 use Rattle.tables.proofs.reader.read_global_type.Statement.{statement}
 use Rattle.tables.proofs.reader.read_global_type.Tie as tie
 
-pub read-global-type-spec : {M : Type 1} → statement M
-read-global-type-spec =
+pub read_global_type_spec : {M : Type 1} → statement M
+read_global_type_spec =
     tie.close
     (tie.spec
     (λ c κs. search rules)
     (λ c. search rules)
     (λ c. search rules)
     (λ c. search rules)
-    (λ c. search (first-missing global-read))
+    (λ c. search (first_missing global_read))
     (λ c κs. search rules)
     (λ c. search rules)
-    (λ c. search (second-follows global-read)))
+    (λ c. search (second_follows global_read)))

@@ -1,14 +1,14 @@
 -- `tables::reader::read_memory_type` meets its contract: a memory type is limits. Assumes nothing.
 use Rattle.format.specs.Dispatch.{renamed}
-use Rattle.tables.proofs.Tables.{memory-read}
+use Rattle.tables.proofs.Tables.{memory_read}
 use borrow.Author.Rules.{rules}
 use Rattle.tables.proofs.reader.read_memory_type.Statement.{statement}
 use Rattle.tables.proofs.reader.read_memory_type.Tie as tie
 
-pub read-memory-type-spec : {M : Type 1} → statement M
-read-memory-type-spec =
+pub read_memory_type_spec : {M : Type 1} → statement M
+read_memory_type_spec =
     tie.close
     (tie.spec
     (λ c κs. search rules)
     (λ c. search rules)
-    (λ c. search (renamed memory-read)))
+    (λ c. search (renamed memory_read)))

@@ -5,8 +5,8 @@ use borrow.Author.Rules.{rules}
 use Rattle.tables.proofs.writer.walk_tag_type.Statement.{statement}
 use Rattle.tables.proofs.writer.walk_tag_type.Tie as tie
 
-pub walk-tag-type-spec : {M : Type 1} → statement M
-walk-tag-type-spec =
+pub walk_tag_type_spec : {M : Type 1} → statement M
+walk_tag_type_spec =
     tie.close
     (tie.spec
     (λ c. search nothing_left)

@@ -1,12 +1,12 @@
 -- `tables::writer::walk_words` meets its contract: by the init flag. Assumes nothing.
 use Rattle.format.specs.Walk.{nothing_left}
-use Rattle.tables.proofs.Tables.{bare-writes, init-writes, no-form}
+use Rattle.tables.proofs.Tables.{bare_writes, init_writes, no_form}
 use borrow.Author.Rules.{rules}
 use Rattle.tables.proofs.writer.walk_words.Statement.{statement}
 use Rattle.tables.proofs.writer.walk_words.Tie as tie
 
-pub walk-words-spec : {M : Type 1} → statement M
-walk-words-spec =
+pub walk_words_spec : {M : Type 1} → statement M
+walk_words_spec =
     tie.close
     (tie.spec
     (λ c. search nothing_left)
@@ -17,7 +17,7 @@ walk-words-spec =
     (λ c. search rules)
     (λ c κs. search rules)
     (λ c. search rules)
-    (λ c. search bare-writes)
+    (λ c. search bare_writes)
     (λ c. search rules)
-    (λ c. search init-writes)
-    (λ c. search no-form))
+    (λ c. search init_writes)
+    (λ c. search no_form))

@@ -4,9 +4,9 @@ use Prim.Native.Nat.{◌≤◌}
 use native.Mathlib.Omega.{arith}
 use lib.ListN.{length, take, drop, length-take, length-drop, length-append}
 use borrow.Author.Rules.{rules}
-use Rattle.format.specs.Read.{drop-end}
-use Rattle.format.specs.Write.{rest-lent}
-use Rattle.exprs.specs.Scan.{scan, exprEnd}
+use Rattle.format.specs.Read.{drop_end}
+use Rattle.format.specs.Write.{rest_lent}
+use Rattle.exprs.specs.Scan.{scan, expr_end}
 use Rattle.exprs.specs.Laws.{sound}
 use Rattle.exprs.specs.declared.ExprEnd.TheVariants as ends
 use Rattle.texts.proofs.reader.find_expr.Statement.{statement}
@@ -14,19 +14,19 @@ use Rattle.texts.proofs.reader.find_expr.Tie as tie
 
 returns : tie.Need-returns
 unfolding scan
-returns c = let a = c.before.before.args in rw (drop-end a.bytes.now a.at (omega (arith, c.if1.true)))
+returns c = let a = c.before.before.args in rw (drop_end a.bytes.now a.at (omega (arith, c.if1.true)))
 
 returns-2 : tie.Need-returns-2
 returns-2 c =
     let a = c.before.before.before.before.before.before.args in
-    let e : exprEnd (drop a.at a.bytes.now) ≡ ends.Nothing = ap exprEnd (sym (rest-lent a.at a.bytes.now)) ∙ sym c.before.before.expr-end.ensures ∙ c.enum_told.given.1 in
+    let e : expr_end (drop a.at a.bytes.now) ≡ ends.Nothing = ap expr_end (sym (rest_lent a.at a.bytes.now)) ∙ sym c.before.before.expr-end.ensures ∙ c.enum_told.given.1 in
     rw e
 
 -- the expression's length
-ended : (k : tie.After-n) → let a = k.before.before.before.before.before.before.args in (exprEnd (drop a.at a.bytes.now) ≡ ends.At k.n.given.0.0) × (k.n.given.0.0 ≤ length (drop a.at a.bytes.now))
+ended : (k : tie.After-n) → let a = k.before.before.before.before.before.before.args in (expr_end (drop a.at a.bytes.now) ≡ ends.At k.n.given.0.0) × (k.n.given.0.0 ≤ length (drop a.at a.bytes.now))
 ended k =
     let a = k.before.before.before.before.before.before.args in
-    let e : exprEnd (drop a.at a.bytes.now) ≡ ends.At k.n.given.0.0 = ap exprEnd (sym (rest-lent a.at a.bytes.now)) ∙ sym k.before.before.expr-end.ensures ∙ k.n.given.1 in
+    let e : expr_end (drop a.at a.bytes.now) ≡ ends.At k.n.given.0.0 = ap expr_end (sym (rest_lent a.at a.bytes.now)) ∙ sym k.before.before.expr-end.ensures ∙ k.n.given.1 in
     let f = sound (drop a.at a.bytes.now) k.n.given.0.0 e in
     (e, omega (arith, f.long, ap length f.split ∙ length-append f.bytes f.rest))
 
@@ -38,8 +38,8 @@ returns-3 c =
     let long : length (take n b) ≡ n = simp length-take (omega (arith, e.1)) in
     rw (e.0, long)
 
-pub find-expr-spec : {M : Type 1} → statement M
-find-expr-spec =
+pub find_expr_spec : {M : Type 1} → statement M
+find_expr_spec =
     tie.close
     (tie.spec
     returns

@@ -11,8 +11,8 @@ other c =
     rw (find_none kind_of abstracts c.before.args.k
     (elim [ Func ↦ r.0.0.0.0.0.0.0.0.0.0.0.0.0.1 | Extern ↦ r.0.0.0.0.0.0.0.0.0.0.0.0.1 | Any ↦ r.0.0.0.0.0.0.0.0.0.0.0.1 | None ↦ r.0.0.0.0.0.0.0.0.0.0.1 | NoExtern ↦ r.0.0.0.0.0.0.0.0.0.1 | NoFunc ↦ r.0.0.0.0.0.0.0.0.1 | Eq ↦ r.0.0.0.0.0.0.0.1 | Struct ↦ r.0.0.0.0.0.0.1 | Array ↦ r.0.0.0.0.0.1 | I31 ↦ r.0.0.0.0.1 | Exn ↦ r.0.0.0.1 | NoExn ↦ r.0.0.1 | Cont ↦ r.0.1 | NoCont ↦ r.1 ]))
 
-pub from-kind-spec : {M : Type 1} → statement M
-from-kind-spec =
+pub from_kind_spec : {M : Type 1} → statement M
+from_kind_spec =
     tie.close
     (tie.spec
     (λ c. rw c.match.keys1)

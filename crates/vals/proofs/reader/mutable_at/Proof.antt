@@ -4,8 +4,8 @@ use borrow.Author.Rules.{rules}
 use Rattle.vals.proofs.reader.mutable_at.Statement.{statement}
 use Rattle.vals.proofs.reader.mutable_at.Tie as tie
 
-pub mutable-at-spec : {M : Type 1} → statement M
-mutable-at-spec =
+pub mutable_at_spec : {M : Type 1} → statement M
+mutable_at_spec =
     tie.close
     (tie.spec
     (λ c. search past_end)

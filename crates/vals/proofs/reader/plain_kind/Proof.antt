@@ -3,8 +3,8 @@ use Rattle.vals.proofs.Bytes.{no_plain}
 use Rattle.vals.proofs.reader.plain_kind.Statement.{statement}
 use Rattle.vals.proofs.reader.plain_kind.Tie as tie
 
-pub plain-kind-spec : {M : Type 1} → statement M
-plain-kind-spec =
+pub plain_kind_spec : {M : Type 1} → statement M
+plain_kind_spec =
     tie.close
     (tie.spec
     (λ c. cc)

@@ -1,19 +1,19 @@
 -- `vals::writer::walk_field` meets its contract: a storage type, and whether it is mutable. Assumes nothing.
-use Rattle.format.specs.Sequence.{first-missing, second-follows}
-use Rattle.types.specs.Vals.{storageWords, storageBytes, field-joins}
+use Rattle.format.specs.Sequence.{first_missing, second_follows}
+use Rattle.types.specs.Vals.{storage_words, storage_bytes, field_joins}
 use borrow.Author.Rules.{rules}
 use Rattle.vals.proofs.writer.walk_field.Statement.{statement}
 use Rattle.vals.proofs.writer.walk_field.Tie as tie
 
-pub walk-field-spec : {M : Type 1} → statement M
-walk-field-spec =
+pub walk_field_spec : {M : Type 1} → statement M
+walk_field_spec =
     tie.close
     (tie.spec
     (λ c κs. search rules)
     (λ c. search rules)
     (λ c. search rules)
     (λ c. search rules)
-    (λ c. search (first-missing (field-joins storageWords storageBytes)))
+    (λ c. search (first_missing (field_joins storage_words storage_bytes)))
     (λ c κs. search rules)
     (λ c. search rules)
-    (λ c. search (second-follows (field-joins storageWords storageBytes))))
+    (λ c. search (second_follows (field_joins storage_words storage_bytes))))

@@ -1,25 +1,25 @@
 -- `vals::writer::walk_unused` meets its contract. Assumes nothing.
 use Rattle.format.specs.Walk.{nothing_left}
-use Rattle.words.specs.TwoWords.{unused-short, first-used, second-used, both-unused}
+use Rattle.words.specs.TwoWords.{unused_short, first_used, second_used, both_unused}
 use borrow.Author.Rules.{rules}
 use Rattle.vals.proofs.writer.walk_unused.Statement.{statement}
 use Rattle.vals.proofs.writer.walk_unused.Tie as tie
 
-pub walk-unused-spec : {M : Type 1} → statement M
-walk-unused-spec =
+pub walk_unused_spec : {M : Type 1} → statement M
+walk_unused_spec =
     tie.close
     (tie.spec
     (λ c. search nothing_left)
     (λ c. search rules)
-    (λ c. search unused-short)
+    (λ c. search unused_short)
     (λ c. search rules)
     (λ c. search rules)
-    (λ c. search first-used)
+    (λ c. search first_used)
     (λ c. search rules)
     (λ c. search rules)
     (λ c. search rules)
-    (λ c. search second-used depth 2)
+    (λ c. search second_used depth 2)
     (λ c. search rules)
     (λ c κs. search rules)
     (λ c. search rules)
-    (λ c. search both-unused))
+    (λ c. search both_unused))

@@ -5,8 +5,8 @@ use borrow.Author.Rules.{rules}
 use Rattle.words.proofs.reader.read_index.Statement.{statement}
 use Rattle.words.proofs.reader.read_index.Tie as tie
 
-pub read-index-spec : {M : Type 1} → statement M
-read-index-spec =
+pub read_index_spec : {M : Type 1} → statement M
+read_index_spec =
     tie.close
     (tie.spec
     (λ c κs. search rules)

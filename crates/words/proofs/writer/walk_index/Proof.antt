@@ -5,8 +5,8 @@ use borrow.Author.Rules.{rules}
 use Rattle.words.proofs.writer.walk_index.Statement.{statement}
 use Rattle.words.proofs.writer.walk_index.Tie as tie
 
-pub walk-index-spec : {M : Type 1} → statement M
-walk-index-spec =
+pub walk_index_spec : {M : Type 1} → statement M
+walk_index_spec =
     tie.close
     (tie.spec
     (λ c. search nothing_left)

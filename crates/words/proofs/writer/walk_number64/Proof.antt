@@ -4,13 +4,13 @@ use Rattle.format.specs.Walk.{nothing_left}
 use Rattle.words.specs.WordWalks.{word_fits}
 use Rattle.words.specs.TwoWords.{one_left}
 use Rattle.words.specs.Number64.{number64}
-use Rattle.words.proofs.Numbers.{high_fits, both-fit, number64-walks}
+use Rattle.words.proofs.Numbers.{high_fits, both_fit, number64_walks}
 use borrow.Author.Rules.{rules}
 use Rattle.words.proofs.writer.walk_number64.Statement.{statement}
 use Rattle.words.proofs.writer.walk_number64.Tie as tie
 
-pub walk-number64-spec : {M : Type 1} → statement M
-walk-number64-spec =
+pub walk_number64_spec : {M : Type 1} → statement M
+walk_number64_spec =
     tie.close
     (tie.spec
     (λ c. search nothing_left)
@@ -25,7 +25,7 @@ walk-number64-spec =
     (λ c. search word_fits)
     (λ c. search rules)
     (λ c. search high_fits)
-    (λ c. search both-fit)
+    (λ c. search both_fit)
     (λ c κs. search rules)
     (λ c. search rules)
-    (λ c. search number64-walks))
+    (λ c. search number64_walks))
