@@ -1,10 +1,12 @@
 // Writing into the rest of a lent buffer, and counting what is written. The theory of formats that every item is defined by stands in specs/.
+#![tactic(auto)]
+
 ghost use Rattle.std.specs.Prelude.{◌≡◌, [], ◌∷◌, ◌+◌, min};
 ghost use Rattle.format.specs.Write.{Writes};
 ghost use Rattle.format.specs.Count.{Appends, counted, count_in, low_in, grown_by, lowered};
 
 // What a writer answers: how many numbers it wrote at the front of what it was lent, or that they do not fit and nothing was written.
-#[derive(Drop)]
+#[derive(Clone, Copy)]
 pub enum Written {
     Length(usize),
     Short,
@@ -37,7 +39,8 @@ pub fn copy(b: &[u8], out: &mut [u8]) -> Written
     if out.len() < b.len() {
         return Written::Short;
     }
-    Written::Length(bytes::copy(b, out))
+    out[0..b.len()].copy_from_slice(b);
+    Written::Length(b.len())
 }
 
 pub fn copy_words(w: &[u32], out: &mut [u32]) -> Written
@@ -65,7 +68,7 @@ pub const NO_REFUSAL: u32 = 9;
 
 // How much was appended to a lent buffer, and the lowest refusal drawn so far. One number, so that a walk hands it to the next in a register.
 // Of one whose refusal is above NO_REFUSAL nothing is promised (`Has`, specs/Count.antt), and no walk makes one.
-#[derive(Drop)]
+#[derive(Clone, Copy)]
 pub struct Done {
     pub v: u64,
 }
@@ -80,7 +83,7 @@ impl Done {
 }
 
 // What a walk finds: nothing; or the place behind what it read, and what is done.
-#[derive(Drop)]
+#[derive(Clone, Copy)]
 pub enum Walk {
     No,
     Got(usize, Done),
