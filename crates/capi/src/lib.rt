@@ -1,5 +1,7 @@
 // The entries for C and Rust, over numbers and slices: a slice passes as a pointer and a length. Each answers a number of document 01's table; beside a
 // refusal every number that was lent is 0, but for the room used, which stays, and every byte stays. c/thriftbell.h and rust/src/raw.rs declare them.
+#![tactic(auto)]
+
 mod told;
 
 ghost use Rattle.std.specs.Prelude.{◌≡◌, pos, length as long, drop};

@@ -1,4 +1,6 @@
 // What composite types of wasm-encoder's types.rs define: their records and their bytes.
+#![tactic(auto)]
+
 mod reader;
 mod writer;
 

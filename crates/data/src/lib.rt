@@ -1,4 +1,6 @@
 // Data segments, as DataSection of wasm-encoder's data.rs writes them: passive, active in memory 0, active in another memory.
+#![tactic(auto)]
+
 mod reader;
 mod writer;
 

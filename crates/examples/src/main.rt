@@ -1,5 +1,7 @@
 // The checked examples of document 01: each is written, shown in hexadecimal and read back, and the file stdout has what the document says.
 // specs/Examples.antt proves those marked P.
+#![tactic(auto)]
+
 ghost use Rattle.std.specs.Prelude.{◌<◌};
 
 use format::Written;

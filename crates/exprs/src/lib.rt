@@ -1,4 +1,6 @@
 // Constant expressions: where the first one at the front of some bytes ends, and two that are made from a number.
+#![tactic(auto)]
+
 ghost use Rattle.std.specs.Prelude.{◌≡◌, ◌≤◌, ◌<◌, length, drop};
 ghost use Rattle.format.specs.Write.{Writes};
 ghost use Rattle.exprs.specs.Const.{const_of};
@@ -7,14 +9,14 @@ ghost use Rattle.exprs.specs.Scan.{codes, lookup, opcode as opcode_of, number_le
 use format::Written;
 
 // Where the first expression ends, or that none begins the bytes.
-#[derive(Drop)]
+#[derive(Clone, Copy)]
 pub enum ExprEnd {
     At(usize),
     Nothing,
 }
 
 // What an instruction's first byte leads to: the end, nothing, or an operand, by its kind and how much of it is to come.
-#[derive(Drop)]
+#[derive(Clone, Copy)]
 pub enum Next {
     End,
     Bad,
@@ -22,7 +24,7 @@ pub enum Next {
 }
 
 // What a byte of an operand leaves of it.
-#[derive(Drop)]
+#[derive(Clone, Copy)]
 pub enum Left {
     Still(u32),
     Wrong,

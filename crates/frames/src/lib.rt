@@ -1,4 +1,6 @@
 // The store: lent bytes that hold a frame for each accepted add, one after the other. The state is how much of it is used.
+#![tactic(auto)]
+
 ghost use Rattle.std.specs.Prelude.{◌≡◌, ◌+◌, ◌≤◌};
 ghost use Rattle.format.specs.Write.{Writes};
 ghost use Rattle.format.specs.Runs.{run};
@@ -17,7 +19,7 @@ pub const STORE_MOST: usize = 16777216;
 const ITEM_MOST: usize = 65536;
 
 // The room used.
-#[derive(Drop)]
+#[derive(Clone, Copy)]
 pub struct State {
     pub used: usize,
 }
@@ -60,7 +62,7 @@ pub fn is_full(state: State, store: &[u8], n: usize) -> bool
 }
 
 // The sections that hold items.
-#[derive(Drop)]
+#[derive(Clone, Copy)]
 pub enum SectionId {
     Types,
     Imports,
@@ -124,7 +126,7 @@ fn word_of(a: u8, b: u8, c: u8, d: u8) -> usize
 }
 
 // A frame at a place: its section's id, and where its item ends; or that none begins there.
-#[derive(Drop)]
+#[derive(Clone, Copy)]
 pub enum FrameAt {
     Is(u8, usize),
     No,
@@ -151,7 +153,7 @@ pub fn frame_at(bytes: &[u8], at: usize) -> FrameAt
 }
 
 // What a walk finds: whether the bytes are frames, and then how many items each section has, by its id, and how many bytes they have.
-#[derive(Drop)]
+#[derive(Clone, Copy)]
 pub struct Tallies {
     pub are: bool,
     pub counts: [usize; 16],

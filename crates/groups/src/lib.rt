@@ -1,4 +1,6 @@
 // Types, as TypeSection of wasm-encoder's types.rs writes them: a subtype alone, or a group.
+#![tactic(auto)]
+
 mod reader;
 mod writer;
 

@@ -32,7 +32,7 @@ fn char_of(d: u8) -> u8
 }
 
 // How many bytes a line holds; or that it is no pairs of digits, or that there is no room for its bytes.
-#[derive(Drop)]
+#[derive(Clone, Copy)]
 pub enum Decoded {
     Bytes(usize),
     No,

@@ -1,4 +1,6 @@
 // Lines of digits: bytes in hexadecimal with their check byte, the frame that a line holds, and words of 32 bits.
+#![tactic(auto)]
+
 mod digits;
 mod frame;
 mod sum;

@@ -1,4 +1,6 @@
 // The hex-line program: each line of standard input is answered by one line of standard output.
+#![tactic(auto)]
+
 ghost use Rattle.std.specs.Prelude.{◌≡◌, ◌≤◌, length};
 ghost use Rattle.replies.specs.Input.{kept_most};
 ghost use Rattle.replies.specs.Run.{store_long, buffer_long, longest, Ready, HearsAll};
@@ -16,7 +18,7 @@ fn read_piece(piece: &mut [u8]) -> isize {
 }
 
 // The run behind all of a piece, and whether what was said is written.
-#[derive(Drop)]
+#[derive(Clone, Copy)]
 struct Turn {
     run: Run,
     ok: bool,

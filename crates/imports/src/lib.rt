@@ -1,4 +1,6 @@
 // The import section of wasm-encoder's imports.rs: entity types, single imports and the two compact forms.
+#![tactic(auto)]
+
 mod reader;
 mod writer;
 
@@ -6,7 +8,7 @@ pub use reader::walk_bytes;
 use tables::{GlobalType, MemoryType, TableType, TagType};
 pub use writer::walk_words;
 
-#[derive(Drop)]
+#[derive(Clone, Copy)]
 pub enum EntityType {
     Function(u32),
     Table(TableType),
@@ -17,7 +19,7 @@ pub enum EntityType {
 }
 
 // The forms of an import, as `Imports` has them.
-#[derive(Drop)]
+#[derive(Clone, Copy)]
 pub enum Form {
     Single,
     Compact1,
@@ -25,7 +27,7 @@ pub enum Form {
 }
 
 // What the members of a list are: names with their entities, or names alone.
-#[derive(Drop)]
+#[derive(Clone, Copy)]
 pub enum Member {
     Import,
     Name,

@@ -1,4 +1,6 @@
 // Items of all sections: a record's first word, or the section's id, says which. A further section is one more case of each function.
+#![tactic(auto)]
+
 ghost use Rattle.std.specs.Prelude.{◌≤◌, length};
 ghost use Rattle.format.specs.Count.{silent};
 ghost use Rattle.format.specs.Walk.{Walking, Walks};
@@ -53,7 +55,7 @@ pub fn walk_bytes(id: u8, bytes: &[u8], out: &mut [u32], s: Done) -> Walk
 }
 
 // What a record and its text draw of 2 to 6; or none of them, and the item's length.
-#[derive(Drop)]
+#[derive(Clone, Copy)]
 pub enum Judged {
     Refused(u32),
     Length(usize),

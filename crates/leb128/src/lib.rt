@@ -1,5 +1,7 @@
 // LEB128, argued once: for every width, and for numbers without and with a sign alike. A number goes by its sign and its magnitude: `pos a` is a, and
 // `negsuc a` is -(a + 1), whose bits are those of a turned over.
+#![tactic(auto)]
+
 mod reader;
 mod writer;
 
@@ -7,7 +9,7 @@ pub use reader::{decode, is_within};
 pub use writer::{encode, size};
 
 // A number by its sign and its magnitude, and where it ended.
-#[derive(Drop)]
+#[derive(Clone, Copy)]
 pub enum Parts {
     Value(bool, u64, usize),
     Nothing,

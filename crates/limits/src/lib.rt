@@ -1,4 +1,6 @@
 // Limits of tables and memories of wasm-encoder's tables.rs and memories.rs: their words and their bytes.
+#![tactic(auto)]
+
 mod reader;
 mod writer;
 
@@ -6,7 +8,7 @@ pub use reader::read_limits;
 pub use writer::walk_limits;
 
 // A maximum size, or that there is none.
-#[derive(Drop)]
+#[derive(Clone, Copy)]
 pub enum Maximum {
     None,
     Some(u64),

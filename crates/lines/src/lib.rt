@@ -1,4 +1,6 @@
 // Hex lines: each is answered by one line.
+#![tactic(auto)]
+
 mod tell;
 
 ghost use Rattle.std.specs.Prelude.{◌≡◌};
@@ -9,7 +11,7 @@ use tell::tell;
 use thriftbell::{State, Written};
 
 // The state behind a line, and how many characters the answer line has; or that there is no room for the longest answer, and then nothing was done.
-#[derive(Drop)]
+#[derive(Clone, Copy)]
 pub struct Reply {
     pub state: State,
     pub line: Written,

@@ -9,7 +9,7 @@ use hex_text::{read_words, word_at};
 use thriftbell::{Finished, Given, State, add, finish};
 
 // The number of the table, how many bytes the module has or 0, and the state.
-#[derive(Drop)]
+#[derive(Clone, Copy)]
 pub struct Told {
     pub number: u8,
     pub value: usize,

@@ -1,4 +1,6 @@
 // Lists of indices, value types or fields: a count and then the members, as `Encode` of wasm-encoder's lib.rs writes a slice.
+#![tactic(auto)]
+
 mod reader;
 mod writer;
 
@@ -6,7 +8,7 @@ pub use reader::read_list;
 pub use writer::walk_list;
 
 // What the members of a list are.
-#[derive(Drop)]
+#[derive(Clone, Copy)]
 pub enum Member {
     Index,
     Val,

@@ -1,4 +1,6 @@
 // Where the elements of a segment of wasm-encoder's elements.rs go: the mode, and the table and the offset that it has.
+#![tactic(auto)]
+
 mod reader;
 mod writer;
 
@@ -6,7 +8,7 @@ pub use reader::{append_mode, append_two, read_place};
 pub use writer::{find_mode, walk_place};
 
 // Where the elements of a segment go. Active is without a table.
-#[derive(Drop)]
+#[derive(Clone, Copy)]
 pub enum Mode {
     Active,
     Passive,
@@ -15,7 +17,7 @@ pub enum Mode {
 }
 
 // What a mode word and a table flag are.
-#[derive(Drop)]
+#[derive(Clone, Copy)]
 pub enum ModeRead {
     No,
     Is(Mode),

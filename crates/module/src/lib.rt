@@ -1,4 +1,6 @@
 // Finishing: the module of a store's frames, by an order list and the numbers given with it.
+#![tactic(auto)]
+
 mod order;
 
 ghost use Rattle.std.specs.Prelude.{◌≡◌, true, ◌≤◌, length};
@@ -20,7 +22,7 @@ use sections::{put_sections, sections_len};
 // The most ids of an order list.
 const ORDER_MOST: usize = 32;
 
-#[derive(Drop)]
+#[derive(Clone, Copy)]
 pub struct Module {}
 
 impl Module {
@@ -29,7 +31,7 @@ impl Module {
 }
 
 // What finishing answers: how many bytes the module has, or a number of the table, and then nothing was changed.
-#[derive(Drop)]
+#[derive(Clone, Copy)]
 pub enum Finished {
     Length(usize),
     Refused(u32),

@@ -1,4 +1,6 @@
 // Names: whether bytes are UTF-8, in one pass over their characters.
+#![tactic(auto)]
+
 ghost use Rattle.std.specs.Prelude.{◌≡◌, ◌≤◌, length, get_or};
 ghost use Rattle.names.specs.Char.{two, three, four, wide};
 ghost use Rattle.names.specs.Name.{is_name, NamedTo};

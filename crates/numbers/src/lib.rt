@@ -1,4 +1,6 @@
 // Numbers as `Encode` of wasm-encoder's lib.rs writes them, in LEB128, and their readers: the argument of `leb128` at the widths in use.
+#![tactic(auto)]
+
 ghost use Rattle.std.specs.Prelude.{◌≡◌, pos, length, drop, ◌%◌, ◌≤◌, ◌<◌, ◌^◌};
 ghost use Rattle.std.specs.Int.Signed.{lt_z, mag};
 ghost use Rattle.format.specs.Count.{Appends};
@@ -13,25 +15,25 @@ use format::{Done, Written, count, grown, least};
 use leb128::Parts;
 
 // What a reader finds: a value and where it ended, or nothing.
-#[derive(Drop)]
+#[derive(Clone, Copy)]
 pub enum ReadU32 {
     Value(u32, usize),
     Nothing,
 }
 
-#[derive(Drop)]
+#[derive(Clone, Copy)]
 pub enum ReadU64 {
     Value(u64, usize),
     Nothing,
 }
 
-#[derive(Drop)]
+#[derive(Clone, Copy)]
 pub enum ReadI32 {
     Value(i32, usize),
     Nothing,
 }
 
-#[derive(Drop)]
+#[derive(Clone, Copy)]
 pub enum ReadI64 {
     Value(i64, usize),
     Nothing,

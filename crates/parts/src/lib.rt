@@ -1,4 +1,6 @@
 // Parts of records and items that are texts: a name, an expression, data, as words and as bytes.
+#![tactic(auto)]
+
 mod reader;
 mod writer;
 

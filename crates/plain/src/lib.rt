@@ -1,4 +1,6 @@
 // Plain bytes, those below 0x80: many are tested at a step, by all their bits together.
+#![tactic(auto)]
+
 ghost use Rattle.std.specs.Prelude.{◌≡◌, ◌↔◌, true, ◌+◌, ◌≤◌, ◌<◌, length};
 ghost use Rattle.plain.specs.Plain.{IsPlain, Bits, TellsPlain};
 

@@ -1,4 +1,6 @@
 // What may stand before a composite type of wasm-encoder's types.rs: final or not and supertypes, shared, describes, descriptor.
+#![tactic(auto)]
+
 mod reader;
 mod writer;
 

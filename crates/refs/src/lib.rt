@@ -1,4 +1,6 @@
 // References: their words and their bytes, as `Encode` of wasm-encoder's types.rs writes `HeapType` and `RefType`.
+#![tactic(auto)]
+
 mod reader;
 mod writer;
 

@@ -1,4 +1,6 @@
 // Lines out of pieces of an input, and their answers into an output that the caller writes on: nothing is written here.
+#![tactic(auto)]
+
 mod input;
 mod reply;
 
@@ -6,7 +8,7 @@ pub use input::{end_input, take_piece};
 use thriftbell::State;
 
 // The state; how many characters of a line are gathered; and how many bytes of the output wait to be written, from its front on.
-#[derive(Drop)]
+#[derive(Clone, Copy)]
 pub struct Run {
     pub state: State,
     pub n: usize,
@@ -14,7 +16,7 @@ pub struct Run {
 }
 
 // The run behind a part of a piece, and how many characters that part has.
-#[derive(Drop)]
+#[derive(Clone, Copy)]
 pub struct Heard {
     pub run: Run,
     pub to: usize,

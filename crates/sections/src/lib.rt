@@ -1,4 +1,6 @@
 // The sections of a module: their lengths first, and then their bytes, where there is room for all.
+#![tactic(auto)]
+
 mod each;
 mod once;
 mod section;
@@ -20,7 +22,7 @@ use once::{is_once, put_once};
 use section::{count_of, section_len};
 
 // The numbers that finishing is given beside the order list.
-#[derive(Drop)]
+#[derive(Clone, Copy)]
 pub struct Given {
     pub count: u32,
 }

@@ -16,7 +16,7 @@ use crate::section::{count_of, put_head};
 use frames::{FrameAt, Tallies};
 
 // Where each section's next item goes, by its id, and 0 where the order list has no such section; and how many bytes all sections have.
-#[derive(Drop)]
+#[derive(Clone, Copy)]
 pub struct Heads {
     pub places: [usize; 16],
     pub n: usize,

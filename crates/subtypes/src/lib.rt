@@ -1,4 +1,6 @@
 // Subtypes of wasm-encoder's types.rs: their records and their bytes.
+#![tactic(auto)]
+
 mod reader;
 mod writer;
 

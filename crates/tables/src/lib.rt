@@ -1,4 +1,6 @@
 // Table, memory, global and tag types of wasm-encoder's tables.rs, memories.rs, globals.rs and tags.rs, and the tables of TableSection.
+#![tactic(auto)]
+
 mod reader;
 mod writer;
 
@@ -7,7 +9,7 @@ pub use reader::{read_global_type, read_memory_type, read_table_type, read_tag_t
 use types::{RefType, ValType};
 pub use writer::{walk_global_type, walk_memory_type, walk_table_type, walk_tag_type, walk_words};
 
-#[derive(Drop)]
+#[derive(Clone, Copy)]
 pub struct TableType {
     pub element_type: RefType,
     pub table64: bool,
@@ -16,7 +18,7 @@ pub struct TableType {
     pub shared: bool,
 }
 
-#[derive(Drop)]
+#[derive(Clone, Copy)]
 pub struct MemoryType {
     pub minimum: u64,
     pub maximum: Maximum,
@@ -24,18 +26,18 @@ pub struct MemoryType {
     pub shared: bool,
 }
 
-#[derive(Drop)]
+#[derive(Clone, Copy)]
 pub struct GlobalType {
     pub val_type: ValType,
     pub mutable: bool,
 }
 
-#[derive(Drop)]
+#[derive(Clone, Copy)]
 pub enum TagKind {
     Exception,
 }
 
-#[derive(Drop)]
+#[derive(Clone, Copy)]
 pub struct TagType {
     pub kind: TagKind,
     pub func_type_idx: u32,

@@ -1,4 +1,6 @@
 // A record's texts: spans of the text that comes with it, the refusals that they draw (3, 4, 5), and what is written of them.
+#![tactic(auto)]
+
 mod reader;
 
 ghost use Rattle.std.specs.Prelude.{◌≡◌, cond, length};
@@ -12,14 +14,14 @@ use numbers::append_u32;
 pub use reader::{append_span, find_data, find_expr};
 
 // Two words of a record: where a text starts, and its length.
-#[derive(Drop)]
+#[derive(Clone, Copy)]
 pub struct Span {
     pub start: u32,
     pub len: u32,
 }
 
 // Where a text of an item stands in its bytes, or that none begins there.
-#[derive(Drop)]
+#[derive(Clone, Copy)]
 pub enum TextAt {
     At(Span),
     No,

@@ -1,4 +1,6 @@
 // The public entries, all of them: a store of records, the module that is built of it, the reader of its items, and the numbers, names and expressions of which they are made.
+#![tactic(auto)]
+
 ghost use Rattle.std.specs.Prelude.{◌≡◌, ◌≤◌, length};
 ghost use Rattle.thriftbell.specs.Add.{Storable, outcome, added, adding};
 ghost use Rattle.thriftbell.specs.Read.{outcome as readOutcome, reading, PutsWords};
@@ -17,7 +19,7 @@ pub use numbers::{
 };
 
 // What adding answers: 0, and the state with the frame's room used too; or a number of the table, and then nothing was changed.
-#[derive(Drop)]
+#[derive(Clone, Copy)]
 pub struct Added {
     pub state: State,
     pub number: u32,
@@ -90,7 +92,7 @@ pub fn add(state: State, store: &mut [u8], words: &[u32], text: &[u8]) -> Added
 }
 
 // What reading answers: how many words it wrote and bytes it took; or a number of the table, and then nothing was changed.
-#[derive(Drop)]
+#[derive(Clone, Copy)]
 pub enum Taken {
     Took(usize, usize),
     Refused(u32),

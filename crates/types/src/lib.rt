@@ -1,4 +1,6 @@
 // Heap, reference, value, storage and field types of wasm-encoder's types.rs. Their words and their bytes stand in specs/.
+#![tactic(auto)]
+
 ghost use Rattle.std.specs.Prelude.{◌≡◌};
 ghost use Rattle.format.specs.Basic.{find};
 ghost use Rattle.types.specs.Abstract.{abstracts, kind_of, byte_of};
@@ -8,7 +10,7 @@ ghost use Rattle.types.specs.Answers.{kind_ans, ref_ans};
 ghost use Rattle.types.specs.declared.HeapType.TheVariants.{Abstract};
 
 // The abstract heap types, in the order of their kinds.
-#[derive(Drop)]
+#[derive(Clone, Copy)]
 pub enum AbstractHeapType {
     Func,
     Extern,
@@ -26,20 +28,20 @@ pub enum AbstractHeapType {
     NoCont,
 }
 
-#[derive(Drop)]
+#[derive(Clone, Copy)]
 pub enum HeapType {
     Abstract { shared: bool, ty: AbstractHeapType },
     Concrete(u32),
     Exact(u32),
 }
 
-#[derive(Drop)]
+#[derive(Clone, Copy)]
 pub struct RefType {
     pub nullable: bool,
     pub heap_type: HeapType,
 }
 
-#[derive(Drop)]
+#[derive(Clone, Copy)]
 pub enum ValType {
     I32,
     I64,
@@ -49,41 +51,41 @@ pub enum ValType {
     Ref(RefType),
 }
 
-#[derive(Drop)]
+#[derive(Clone, Copy)]
 pub enum StorageType {
     I8,
     I16,
     Val(ValType),
 }
 
-#[derive(Drop)]
+#[derive(Clone, Copy)]
 pub struct FieldType {
     pub element_type: StorageType,
     pub mutable: bool,
 }
 
 // What a kind or a byte is: an abstract heap type or none.
-#[derive(Drop)]
+#[derive(Clone, Copy)]
 pub enum AbstractRead {
     No,
     Kind(AbstractHeapType),
 }
 
 // What the two words of a reference are.
-#[derive(Drop)]
+#[derive(Clone, Copy)]
 pub enum RefRead {
     No,
     Ref(RefType),
 }
 
 // What begins at a place of some bytes, and where it ends; or that none does.
-#[derive(Drop)]
+#[derive(Clone, Copy)]
 pub enum HeapAt {
     Is(HeapType, usize),
     No,
 }
 
-#[derive(Drop)]
+#[derive(Clone, Copy)]
 pub enum RefAt {
     Is(RefType, usize),
     No,

@@ -1,4 +1,6 @@
 // Value, storage and field types: their words and their bytes, as `Encode` of wasm-encoder's types.rs writes `ValType`, `StorageType` and `FieldType`.
+#![tactic(auto)]
+
 mod reader;
 mod writer;
 

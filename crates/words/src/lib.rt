@@ -1,4 +1,6 @@
 // What stands in a record's words and is no text: an index, a number of 64 bits, two unused words.
+#![tactic(auto)]
+
 mod reader;
 mod writer;
 
