@@ -1,8 +1,0 @@
--- `numbers::number` meets its contract. Assumes nothing.
-use borrow.Author.Rules.{rules}
-use Rattle.numbers.proofs.Signs.{number_turned, number_same}
-use Rattle.numbers.proofs.number.Statement.{statement}
-use Rattle.numbers.proofs.number.Tie as tie
-
-pub number_spec : {M : Type 1} → statement M
-number_spec = tie.close (tie.spec (λ c. search rules) (λ c. search rules) (λ c. search number_turned) (λ c. search number_same))
