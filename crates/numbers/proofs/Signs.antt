@@ -52,7 +52,7 @@ module _ (v : ℤ) (f : SFits w64 v) where
 
 -- a number of 32 bits, cast to 64
 pub widened : (v : ℤ) → SFits w32 v → to_z w64 (of_z w64 (to_z w32 (of_z w32 v))) ≡ v
-widened v f = ap (λ (z : ℤ). to_z w64 (of_z w64 z)) (to_z-of_z f) ∙ to_z-of_z (sfits_widen tt f)
+widened v f = ap (λ (z : ℤ). to_z w64 (of_z w64 z)) (to_z-of_z f) ∙ to_z-of_z {w = w64} (sfits_widen {w = w32} {w' = w64} (tt {0}) f)
 
 -- the bits of a magnitude turned over
 pub to_z_turned : (a : ℕ) → a < 2 ^ 63 → to_z w64 (2 ^ 64 - 1 - a) ≡ negsuc a
@@ -60,7 +60,7 @@ to_z_turned a h = let e : 2 ^ 64 - 1 - a ≡ 2 ^ 64 - suc a = omega arith in rw 
 
 -- a number of a sign and a magnitude, as it is returned
 pub back64 : {r : ℤ} (neg : Bool) (a : ℕ) → r ≡ by_sign neg a → a < 2 ^ 63 → to_z w64 (of_z w64 r) ≡ by_sign neg a
-back64 neg a e h = rw e (to_z-of_z (record { sfits = rw (mag_sign neg a) h }))
+back64 neg a e h = rw e (to_z-of_z {w = w64} (record { sfits = rw (mag_sign neg a) h }))
 
 -- a number of 32 bits among those of 64, as it is cast and returned
 module _ (z : ℤ) (w : within signed 32 z ≡ true) where
@@ -68,10 +68,10 @@ module _ (z : ℤ) (w : within signed 32 z ≡ true) where
   narrow = record { sfits = ltb-true (mag z) (2 ^ 31) w }
 
   pub cast32 : SFits w32 (to_z w64 (of_z w64 z))
-  cast32 = rw (to_z-of_z (sfits_widen tt narrow)) narrow
+  cast32 = rw (to_z-of_z {w = w64} (sfits_widen {w = w32} {w' = w64} (tt {0}) narrow)) narrow
 
   pub back32 : to_z w32 (of_z w32 (to_z w64 (of_z w64 z))) ≡ z
-  back32 = ap (λ (y : ℤ). to_z w32 (of_z w32 y)) (to_z-of_z (sfits_widen tt narrow)) ∙ to_z-of_z narrow
+  back32 = ap (λ (y : ℤ). to_z w32 (of_z w32 y)) (to_z-of_z {w = w64} (sfits_widen {w = w32} {w' = w64} (tt {0}) narrow)) ∙ to_z-of_z narrow
 
 -- ---- a number that is handed on
 
