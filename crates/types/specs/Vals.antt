@@ -5,7 +5,7 @@ use Rattle.std.proofs.Common.{inl, inr, arith, lit<, lt-ltb, ne_eqb}
 use Rattle.std.proofs.Math.Option.{some}
 use Rattle.format.specs.Count.{silent}
 use Rattle.format.specs.Format.{Format}
-use Rattle.format.specs.Basic.{find, table, tag, lit, flag}
+use Rattle.format.specs.Basic.{find, table, tag, flag}
 use Rattle.format.specs.Sequence.{Joins, joins}
 use Rattle.format.specs.Combine.{pair, iso}
 use Rattle.format.specs.Alternatives.{Heads, is, alt, heads_alt, heads_code, heads_tag}
