@@ -1,4 +1,4 @@
--- What the proofs of `hex` share.
+-- What the proofs of `hex_text` share.
 pub mod Characters
 pub mod Decoding
 pub mod Printing

@@ -1,0 +1,8 @@
+-- `sections::put_sections` meets its contract: one walk for all where no id is there twice, and one for each otherwise. Assumes nothing.
+use borrow.Author.Rules.{rules}
+use Rattle.sections.proofs.Seen.{once_told}
+use Rattle.sections.proofs.put_sections.Goals as goal
+
+pub put_once-requires : goal.put_once-requires
+put_once-requires c =
+    record { order_value = (search rules, search once_told); t_value = search rules; frames_len_bound = search rules; order_in_bounds = search rules }
