@@ -30,7 +30,7 @@ use Rattle.lists.specs.declared.Member.TheVariants.{Index}
 use Rattle.prefixes.specs.Prefix.{is_some, some_supers, supers_lead, supers_words, prefix_of}
 
 zero_byte : uleb 0 ≡ 0 ∷ []
-unfolding Rattle.leb128.specs.Leb.leb Rattle.leb128.specs.Leb.lebBy
+unfolding Rattle.leb128.specs.Leb.leb Rattle.leb128.specs.Leb.leb_by
 zero_byte = refl
 
 some_long : (xs : List ℕ) → some_supers.Ok xs → 1 ≤ length (some_supers.print xs)
