@@ -1,0 +1,19 @@
+-- What the check leaves of `imports::reader::read_members`.
+use Rattle.format.specs.Loop.{loop_starts, loop_done}
+use Rattle.imports.proofs.Members.{reading_stops, reading_goes_on}
+use Rattle.imports.proofs.reader.read_members.Goals as goal
+
+pub loop-left-init : goal.loop-left-init
+loop-left-init c = search loop_starts
+
+pub shape_of-out-in_default : goal.shape_of-out-in_default
+shape_of-out-in_default c = cc
+
+pub returns-in_default : goal.returns-in_default
+returns-in_default c = search reading_stops
+
+pub loop-left-preserved : goal.loop-left-preserved
+loop-left-preserved c = search reading_goes_on
+
+pub returns : goal.returns
+returns c = search loop_done
