@@ -8,7 +8,7 @@ ghost use Rattle.std.specs.Prelude.{◌≡◌, pos, length as long, drop};
 ghost use Rattle.format.specs.Read.{reading};
 ghost use Rattle.format.specs.Write.{writing};
 ghost use Rattle.leb128.specs.Leb.{uleb, sleb};
-ghost use Rattle.leb128.specs.Formats.{u32 as u32s, u64 as u64s, s32, s64, index};
+ghost use Rattle.leb128.proofs.Formats.{u32 as u32s, u64 as u64s, s32, s64, index};
 ghost use Rattle.names.specs.Name.{is_name};
 ghost use Rattle.exprs.specs.Scan.{answer};
 ghost use Rattle.exprs.specs.Const.{const_of};

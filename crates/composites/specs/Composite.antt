@@ -7,7 +7,7 @@ use Rattle.format.specs.Format.{Format}
 use Rattle.format.specs.Basic.{find, table}
 use Rattle.format.specs.Combine.{dep, pair}
 use Rattle.format.specs.Alternatives.{Heads, heads_dep, heads_code}
-use Rattle.leb128.specs.Formats.{index}
+use Rattle.leb128.proofs.Formats.{index}
 use Rattle.words.specs.Words.{word}
 use Rattle.types.specs.Vals.{field_words, field_bytes}
 use Rattle.types.specs.declared.ValType.{ValType}

@@ -1,7 +1,7 @@
 // Writing composite types: their words at a place, and their bytes.
 ghost use Rattle.format.specs.Count.{silent};
 ghost use Rattle.format.specs.Walk.{Walks};
-ghost use Rattle.leb128.specs.Formats.{u32, index};
+ghost use Rattle.leb128.proofs.Formats.{u32, index};
 ghost use Rattle.words.specs.Words.{word};
 ghost use Rattle.composites.specs.Composite.{func, body_words, body_bytes, inner_words, inner_bytes};
 

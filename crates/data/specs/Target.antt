@@ -8,7 +8,7 @@ use Rattle.format.specs.Basic.{tag, empty, lit, via, find, table}
 use Rattle.format.specs.Agree.{Agree}
 use Rattle.format.specs.Alternatives.{Heads, is, alt, alt_ok, heads_tag, heads_alt, heads_pair}
 use Rattle.format.specs.Told.{one}
-use Rattle.leb128.specs.Formats.{u32}
+use Rattle.leb128.proofs.Formats.{u32}
 use Rattle.texts.specs.Section.{Section, textless}
 use Rattle.words.specs.Words.{word}
 use Rattle.texts.specs.declared.Span.{Span}

@@ -11,7 +11,7 @@ use Rattle.format.specs.Walk.{Walks, nothing_left, nothing_there}
 use Rattle.format.specs.declared.Done.{Done}
 use Rattle.format.specs.declared.Walk.{Walk}
 use Rattle.format.specs.declared.Walk.TheVariants as walks
-use Rattle.leb128.specs.Formats.{u32}
+use Rattle.leb128.proofs.Formats.{u32}
 use Rattle.exprs.specs.Grammar.{Expr, stop, more}
 use Rattle.exprs.specs.Laws.{expr}
 use Rattle.words.specs.Words.{word}

@@ -6,7 +6,7 @@ use Rattle.std.proofs.Common.{sym}
 use Rattle.std.proofs.Math.Bool.{true, false}
 use Rattle.format.specs.Lists.{many}
 use Rattle.format.specs.Count.{no_refusal}
-use Rattle.leb128.specs.Formats.{u32}
+use Rattle.leb128.proofs.Formats.{u32}
 use Rattle.leb128.specs.Leb.{leb, leb_by}
 use Rattle.texts.specs.Text.{lowest_of}
 use Rattle.texts.specs.declared.Span.{Span}

@@ -4,7 +4,7 @@ use Rattle.std.proofs.Common.{arith, length-append}
 use Rattle.format.specs.Write.{Writes, outcome, zero_exactly as written-zero}
 use Rattle.format.specs.declared.Written.{Written}
 use Rattle.leb128.specs.Leb.{signed, within, sleb}
-use Rattle.leb128.specs.Standard.{s_written}
+use Rattle.leb128.proofs.Standard.{s_written}
 use Rattle.exprs.specs.Grammar.{i32_const, i64_const, Expr, stop, more}
 
 abbrev pub const_of : ℕ → ℤ → List ℕ

@@ -8,8 +8,8 @@ use Rattle.format.specs.Lists.{All}
 use Rattle.format.specs.Write.{fits_or}
 use Rattle.leb128.specs.Integers.{U, S}
 use Rattle.leb128.specs.Leb.{unsigned, signed, within, last_of, join, wide}
-use Rattle.leb128.specs.LebLaws.{wide_form}
-use Rattle.leb128.specs.Standard.{u_wide, wide_u, s_wide, wide_s}
+use Rattle.leb128.proofs.LebLaws.{wide_form}
+use Rattle.leb128.proofs.Standard.{u_wide, wide_u, s_wide, wide_s}
 use Rattle.exprs.specs.Grammar.{Bytes, Instr, i32_const, i64_const, f32_const, f64_const, global_get, ref_null, ref_func, i32_add, i32_sub, i32_mul, i64_add, i64_sub, i64_mul, Expr, stop, more}
 use Rattle.exprs.specs.Scan.{Code, codes, lookup, opcode, raw_left, number_left, is_heap, operand, plus, still, next, onward, scan, expr_end}
 use Rattle.exprs.specs.declared.Next.{Next}

@@ -7,7 +7,7 @@ use Rattle.format.specs.Basic.{flag}
 use Rattle.format.specs.Alternatives.{Heads, is, heads_long}
 use Rattle.format.specs.Leads.{heads_led}
 use Rattle.format.specs.Told.{one}
-use Rattle.leb128.specs.Formats.{u32}
+use Rattle.leb128.proofs.Formats.{u32}
 use Rattle.texts.specs.Section.{Section, textless, tagged}
 use Rattle.parts.specs.Both.{behind}
 use Rattle.parts.specs.Listed.{each_same, locates_same, listed}

@@ -9,7 +9,7 @@ use Rattle.format.specs.Combine.{pair, iso}
 use Rattle.format.specs.Told.{one}
 use Rattle.format.specs.Write.{fits_or}
 use Rattle.leb128.specs.Leb.{uleb, unsigned, limit, low, leb, leb_by}
-use Rattle.leb128.specs.LebLaws.{leb_last, leb_more}
+use Rattle.leb128.proofs.LebLaws.{leb_last, leb_more}
 use Rattle.parts.specs.Text.{name_bytes}
 use Rattle.imports.specs.Entity.{Sort, sort_of, sort_small, entity_to, entity_bytes}
 use Rattle.imports.specs.Forms.{Rest, rest, Imports}

@@ -7,7 +7,7 @@ use Rattle.format.specs.Format.{Format}
 use Rattle.format.specs.Basic.{find, table}
 use Rattle.format.specs.Combine.{dep, iso}
 use Rattle.format.specs.Agree.{Agree}
-use Rattle.leb128.specs.Formats.{u32}
+use Rattle.leb128.proofs.Formats.{u32}
 use Rattle.words.specs.Words.{word}
 use Rattle.texts.specs.Section.{Section, textless}
 use Rattle.tables.specs.TableType.{table_words, table_bytes, table_agree, memory_words, memory_bytes, memory_agree}

@@ -13,7 +13,7 @@ use Rattle.format.specs.declared.Walk.TheVariants as walks
 use Rattle.format.specs.declared.Written.{Written}
 use Rattle.texts.specs.Judge.{words_most, text_most, item_most}
 use Rattle.texts.specs.Text.{lowest_least}
-use Rattle.texts.specs.Entry.{Below, many_words, no_record, words_left, Measured, measured, long_text, drawn_low, refused_text, large_item, accepted, second_walk}
+use Rattle.texts.proofs.Entry.{Below, many_words, no_record, words_left, Measured, measured, long_text, drawn_low, refused_text, large_item, accepted, second_walk}
 use Rattle.items.specs.Record.{words, texts_of, item_of, low_of, records}
 use Rattle.items.specs.Judging.{refused_is, length_is, Tried, Puts, Judges}
 use Rattle.items.specs.Start.{Starts}

@@ -11,7 +11,7 @@ use Rattle.frames.specs.Ids.{id_of, ids, id_full}
 use Rattle.frames.specs.declared.SectionId.{SectionId}
 use Rattle.texts.specs.Judge.{words_most, text_most, record_in, item_in, why, record_inv}
 use Rattle.texts.specs.Section.{Section, tagged, read_words, readable, Among}
-use Rattle.texts.specs.Reading as reading
+use Rattle.texts.proofs.Reading as reading
 use Rattle.texts.specs.declared.Span.{Span}
 use Rattle.items.specs.Families.{family}
 use Rattle.items.specs.Exception.{filled, exception}

@@ -12,7 +12,7 @@ use Rattle.frames.specs.declared.SectionId.TheVariants.{Imports}
 use Rattle.plain.specs.Plain.{IsPlain}
 use Rattle.texts.specs.Text.{lowest_of, lowest_small}
 use Rattle.texts.specs.Judge.{text_most, record_in, record_inv}
-use Rattle.texts.specs.Entry.{Below}
+use Rattle.texts.proofs.Entry.{Below}
 use Rattle.texts.specs.Plain.{Names, plain_only}
 use Rattle.texts.specs.declared.Span.{Span}
 use Rattle.imports.specs.Names.{import_names}

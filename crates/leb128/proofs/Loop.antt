@@ -17,7 +17,7 @@ use Rattle.format.specs.Parsed.{Parsed, fail, got, map, map-map}
 use Rattle.format.specs.Read.{place_at, drop_more, drop_end}
 use Rattle.format.specs.Write.{fits_or}
 use Rattle.leb128.specs.Leb.{within, leb, last_of, join, wide, short, taken}
-use Rattle.leb128.specs.LebLaws.{wide_last, wide_over, wide_more, wide_long, wide_form}
+use Rattle.leb128.proofs.LebLaws.{wide_last, wide_over, wide_more, wide_long, wide_form}
 use Rattle.leb128.specs.Parts.{join_by, parts_of, short_at, WholeByte, CutByte}
 use Rattle.leb128.specs.declared.Parts.{Parts}
 use Rattle.leb128.specs.declared.Parts.TheVariants.{Nothing}

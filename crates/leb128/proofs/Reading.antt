@@ -16,8 +16,8 @@ use lib.IntN.{ℤ, pos, negsuc}
 use lib.ListN.{length}
 use lib.Pow.{pow-add, pow_pos, pow_mono, shl_exact, split}
 use Rattle.format.specs.Write.{fits_or}
-use Rattle.leb128.specs.Leb.{within, leb, last_of, join}
-use Rattle.leb128.specs.LebLaws.{leb_some, limit_of, limit_is, sign_bits, bytes_at_most, bytes_above}
+use Rattle.leb128.specs.Leb.{within, leb, sign_bits, last_of, join}
+use Rattle.leb128.proofs.LebLaws.{leb_some, limit_of, limit_is, bytes_at_most, bytes_above}
 use Rattle.leb128.specs.Parts.{by_sign, ones_of, join_by, parts_at, short_at, Topped, WholeByte, CutByte}
 use Rattle.leb128.specs.declared.Parts.{Parts}
 use Rattle.leb128.specs.declared.Parts.TheVariants.{Value, Nothing}

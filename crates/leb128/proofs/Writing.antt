@@ -17,7 +17,7 @@ use lib.Signed.{mag, shr_z}
 use Rattle.format.specs.Write.{Writes, over, writes, writes_not, write_one, todo, todo_start, todo_byte, todo_end, fits_or}
 use Rattle.format.specs.declared.Written.TheVariants.{Length, Short}
 use Rattle.leb128.specs.Leb.{limit, low, leb}
-use Rattle.leb128.specs.LebLaws.{low_small, leb_last, leb_more, leb_some, limit_some, limit_of, bytes_at_most, bytes_above}
+use Rattle.leb128.proofs.LebLaws.{low_small, leb_last, leb_more, leb_some, limit_some, limit_of, bytes_at_most, bytes_above}
 use Rattle.leb128.specs.Parts.{by_sign, mag_sign, ones_of}
 
 -- ---- a group

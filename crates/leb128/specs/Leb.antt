@@ -25,6 +25,11 @@ abbrev pub limit : Bool → ℕ
 limit false = 128
 limit true = 64
 
+-- the bit that a sign takes
+abbrev pub sign_bits : Bool → ℕ
+sign_bits false = 0
+sign_bits true = 1
+
 -- the low seven bits in two's complement: z modulo 2^7
 abbrev pub low : ℤ → ℕ
 low (pos a) = a % 128

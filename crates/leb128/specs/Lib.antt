@@ -1,8 +1,4 @@
--- LEB128: the standard's grammar; what is written and read; the laws, over the kind of number and the width; how long a number is; formats; the form that the code has.
+-- LEB128: the standard's grammar; what is written and read; the form that the code has. The laws stand in proofs/, so that a definition that is wrong is refused by them.
 pub mod Integers
 pub mod Leb
-pub mod LebLaws
-pub mod Length
-pub mod Standard
-pub mod Formats
 pub mod Parts

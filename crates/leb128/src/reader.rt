@@ -1,7 +1,6 @@
 // Reading a number by its sign and its magnitude: one pass, the shortest form only. Only a last byte is looked at for its sign, the width and padding.
 ghost use Rattle.std.specs.Prelude.{◌≡◌, cond, ◌&&◌, ◌-◌, ◌*◌, ◌%◌, ◌≤◌, ◌<◌, ◌^◌, leb as is_le, pos, length, drop};
-ghost use Rattle.leb128.specs.Leb.{within, leb, last_of, short};
-ghost use Rattle.leb128.specs.LebLaws.{sign_bits};
+ghost use Rattle.leb128.specs.Leb.{within, leb, last_of, short, sign_bits};
 ghost use Rattle.leb128.specs.Parts.{by_sign, ones_of, join_by, short_at, parts_of, Topped, WholeByte, CutByte};
 ghost use Rattle.leb128.specs.declared.Parts.TheVariants.{Nothing};
 

@@ -20,7 +20,7 @@ use Rattle.format.specs.Walk.{Walks, gone, nothing_there, value_there}
 use Rattle.format.specs.declared.Done.{Done}
 use Rattle.format.specs.declared.Walk.{Walk}
 use Rattle.format.specs.declared.Walk.TheVariants as walks
-use Rattle.leb128.specs.Formats.{u64}
+use Rattle.leb128.proofs.Formats.{u64}
 use Rattle.words.specs.Words.{unused}
 use Rattle.words.specs.Number64.{number64}
 use Rattle.limits.specs.Flags.{flags, flags_of, flags_to_of}

@@ -6,7 +6,7 @@ use Rattle.format.specs.Format.{Format}
 use Rattle.format.specs.Basic.{empty}
 use Rattle.format.specs.Combine.{pair, dep, iso}
 use Rattle.format.specs.Agree.{Agree, agree_same, pair_agree}
-use Rattle.leb128.specs.Formats.{u64}
+use Rattle.leb128.proofs.Formats.{u64}
 use Rattle.words.specs.Words.{unused}
 use Rattle.words.specs.Number64.{number64}
 use Rattle.limits.specs.Flags.{Flags, flags}

@@ -13,7 +13,7 @@ use Rattle.format.specs.declared.Done.{Done}
 use Rattle.format.specs.declared.Walk.{Walk}
 use Rattle.format.specs.declared.Walk.TheVariants as walks
 use Rattle.leb128.specs.Leb.{uleb}
-use Rattle.leb128.specs.Formats.{u32}
+use Rattle.leb128.proofs.Formats.{u32}
 use Rattle.numbers.specs.Answers.{read_u32}
 use Rattle.numbers.specs.Decoded as bytes
 use Rattle.numbers.specs.declared.ReadU32.{ReadU32}

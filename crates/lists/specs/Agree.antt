@@ -1,6 +1,6 @@
 -- The lists that have words are those that have bytes (document 01, Records). Assumes nothing.
 use Rattle.format.specs.Agree.{Agree, many_agree}
-use Rattle.leb128.specs.Formats.{u32}
+use Rattle.leb128.proofs.Formats.{u32}
 use Rattle.words.specs.Words.{word}
 use Rattle.types.specs.Agree.{val_agree, field_agree}
 use Rattle.types.specs.Vals.{val_words, val_bytes, field_words, field_bytes}

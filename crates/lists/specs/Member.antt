@@ -6,8 +6,8 @@ use Rattle.format.specs.Format.{Format}
 use Rattle.format.specs.Basic.{flag}
 use Rattle.format.specs.Alternatives.{heads_long}
 use Rattle.format.specs.Lists.{many}
-use Rattle.leb128.specs.LebLaws.{leb_some}
-use Rattle.leb128.specs.Formats.{u32}
+use Rattle.leb128.proofs.LebLaws.{leb_some}
+use Rattle.leb128.proofs.Formats.{u32}
 use Rattle.words.specs.Words.{word}
 use Rattle.types.specs.Vals.{val_words, val_bytes, is_packed, is_packed_byte, val_not_packed, val_byte_not_packed, storage_words, storage_bytes, field, field_words, field_bytes}
 use Rattle.types.specs.declared.ValType.{ValType}

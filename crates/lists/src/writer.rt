@@ -3,7 +3,7 @@ ghost use Rattle.std.specs.Prelude.{◌≤◌, length};
 ghost use Rattle.format.specs.Count.{silent};
 ghost use Rattle.format.specs.Loop.{Members};
 ghost use Rattle.format.specs.Walk.{Walks};
-ghost use Rattle.leb128.specs.Formats.{u32};
+ghost use Rattle.leb128.proofs.Formats.{u32};
 ghost use Rattle.lists.specs.Member.{member_words, member_bytes, list_words, list_bytes};
 
 use crate::Member;

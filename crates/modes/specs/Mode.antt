@@ -6,7 +6,7 @@ use Rattle.format.specs.Format.{Format}
 use Rattle.format.specs.Basic.{bit, tag, lit, empty, flag}
 use Rattle.format.specs.Combine.{pair, iso}
 use Rattle.format.specs.Alternatives.{Heads, is, alt, heads_tag, heads_code, heads_pair}
-use Rattle.leb128.specs.Formats.{u32}
+use Rattle.leb128.proofs.Formats.{u32}
 use Rattle.words.specs.Words.{word}
 use Rattle.texts.specs.Section.{Section, textless, tagged}
 use Rattle.texts.specs.declared.Span.{Span}

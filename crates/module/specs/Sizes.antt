@@ -2,7 +2,7 @@
 use Rattle.std.specs.Prelude.{◌≡◌, Bool, true, false, cond, ℕ, ◌+◌, ◌≤◌, ◌<◌, ◌^◌, List, eqb, pos, length}
 use Rattle.std.proofs.Common.{arith, length-append}
 use Rattle.leb128.specs.Leb.{unsigned, uleb}
-use Rattle.leb128.specs.LebLaws.{bytes_at_most}
+use Rattle.leb128.proofs.LebLaws.{bytes_at_most}
 use Rattle.frames.specs.Frames.{frames_of, held}
 use Rattle.frames.specs.Builder.{used_in, frames_in, store_most, is_over, within, used_long}
 use Rattle.frames.specs.declared.State.{State}

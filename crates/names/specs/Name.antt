@@ -6,7 +6,7 @@ use Rattle.format.specs.Format.{Format}
 use Rattle.format.specs.Combine.{guard}
 use Rattle.format.specs.Sized.{sized}
 use Rattle.format.specs.Runs.{run, run_only, run_back}
-use Rattle.leb128.specs.Formats.{u32}
+use Rattle.leb128.proofs.Formats.{u32}
 use Rattle.names.specs.Utf8.{IsName}
 use Rattle.names.specs.Char.{char, char_some}
 

@@ -14,10 +14,10 @@ use lib.Pow.{pow_mono}
 use lib.Signed.{mag}
 use Rattle.format.specs.Parsed.{Parsed, fail, got}
 use Rattle.format.specs.Read.{found, nothing, reading, place_of, drop_more, drop_end, reads, reads_not, told_found}
-use Rattle.leb128.specs.LebLaws.{leb_last}
+use Rattle.leb128.proofs.LebLaws.{leb_last}
 use Rattle.leb128.proofs.Loop.{wide_none}
 use Rattle.leb128.specs.Leb.{uleb, unsigned, signed, within, short}
-use Rattle.leb128.specs.Formats.{integer, natural, below, u_n, s_n, u32, s32, index_fits, index, short_only}
+use Rattle.leb128.proofs.Formats.{integer, natural, below, u_n, s_n, u32, s32, index_fits, index, short_only}
 use Rattle.leb128.specs.Parts.{by_sign, parts_of, mag_sign}
 use Rattle.leb128.specs.declared.Parts.{Parts}
 use Rattle.leb128.specs.declared.Parts.TheVariants.{Value, Nothing}

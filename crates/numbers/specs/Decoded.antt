@@ -13,8 +13,8 @@ use Rattle.format.specs.declared.Done.{Done}
 use Rattle.format.specs.declared.Walk.{Walk}
 use Rattle.format.specs.declared.Walk.TheVariants as walks
 use Rattle.leb128.specs.Leb.{unsigned}
-use Rattle.leb128.specs.LebLaws.{leb_some}
-use Rattle.leb128.specs.Formats.{u32}
+use Rattle.leb128.proofs.LebLaws.{leb_some}
+use Rattle.leb128.proofs.Formats.{u32}
 use Rattle.numbers.specs.Answers.{read_u32}
 use Rattle.numbers.specs.declared.ReadU32.{ReadU32}
 use Rattle.numbers.specs.declared.ReadU32.TheVariants as U32

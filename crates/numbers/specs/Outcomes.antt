@@ -7,7 +7,7 @@ use Rattle.format.specs.RoundTrip.{written_read}
 use Rattle.format.specs.declared.Written.{Written}
 use Rattle.format.specs.declared.Written.TheVariants.{Length}
 use Rattle.leb128.specs.Leb.{signed, within, uleb, sleb}
-use Rattle.leb128.specs.Formats.{u_n, s_n, index}
+use Rattle.leb128.proofs.Formats.{u_n, s_n, index}
 use Rattle.numbers.specs.Answers.{read_u32, read_u64, read_i32, read_i64}
 use Rattle.numbers.specs.declared.ReadU32.{ReadU32}
 use Rattle.numbers.specs.declared.ReadU32.TheVariants as U32

@@ -7,7 +7,7 @@ ghost use Rattle.format.specs.Count.{Appends};
 ghost use Rattle.format.specs.Read.{reading};
 ghost use Rattle.format.specs.Write.{Writes};
 ghost use Rattle.leb128.specs.Leb.{leb, uleb, sleb};
-ghost use Rattle.leb128.specs.Formats.{u_n, s_n, u32, u64, s32, s64, index};
+ghost use Rattle.leb128.proofs.Formats.{u_n, s_n, u32, u64, s32, s64, index};
 ghost use Rattle.leb128.specs.Parts.{by_sign};
 ghost use Rattle.numbers.specs.Answers.{read_u32, read_u64, read_i32, read_i64};
 

@@ -17,9 +17,9 @@ use Rattle.format.specs.Read.{begins, too_few}
 use Rattle.format.specs.Sized.{sized}
 use Rattle.format.specs.declared.Done.{Done}
 use Rattle.format.specs.declared.Walk.TheVariants as walks
-use Rattle.leb128.specs.Formats.{u32}
+use Rattle.leb128.proofs.Formats.{u32}
 use Rattle.leb128.specs.Leb.{uleb, unsigned}
-use Rattle.leb128.specs.LebLaws.{leb_some}
+use Rattle.leb128.proofs.LebLaws.{leb_some}
 use Rattle.exprs.specs.Laws.{expr}
 use Rattle.names.specs.Name.{is_name}
 use Rattle.texts.specs.Text.{cut_is}

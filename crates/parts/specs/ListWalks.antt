@@ -9,7 +9,7 @@ use Rattle.format.specs.Counted.{CountedList, least_silent}
 use Rattle.format.specs.declared.Done.{Done}
 use Rattle.format.specs.declared.Walk.{Walk}
 use Rattle.format.specs.declared.Walk.TheVariants as walks
-use Rattle.leb128.specs.Formats.{u32}
+use Rattle.leb128.proofs.Formats.{u32}
 use Rattle.leb128.specs.Leb.{uleb}
 use Rattle.numbers.specs.Answers.{read_u32}
 use Rattle.numbers.specs.Decoded.{u32_long, no_count, count_too_large, then_members}

@@ -2,7 +2,7 @@
 use Rattle.std.specs.Prelude.{◌≡◌, refl, List, [], ◌∷◌, ◌++◌, ℕ, suc, ◌+◌, ◌≤◌, length}
 use Rattle.std.proofs.Common.{sym, ap, subst, length-append}
 use Rattle.format.specs.Lists.{All, prints, many}
-use Rattle.leb128.specs.Formats.{u32}
+use Rattle.leb128.proofs.Formats.{u32}
 use Rattle.texts.specs.Allowed.{Allowed}
 use Rattle.texts.specs.Judge.{text_most}
 use Rattle.texts.specs.Section.{Section}

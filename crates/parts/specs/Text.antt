@@ -7,7 +7,7 @@ use Rattle.format.specs.Format.{Format}
 use Rattle.format.specs.Combine.{guard}
 use Rattle.format.specs.Sized.{sized}
 use Rattle.format.specs.Read.{read_on, begins}
-use Rattle.leb128.specs.Formats.{u32}
+use Rattle.leb128.proofs.Formats.{u32}
 use Rattle.names.specs.Name.{is_name, name_exactly}
 use Rattle.exprs.specs.Laws.{expr}
 use Rattle.texts.specs.Text.{Kind, named, constant, plain, slice_of, long_in}

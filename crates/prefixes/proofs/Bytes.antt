@@ -21,10 +21,10 @@ use Rattle.format.specs.declared.Done.{Done}
 use Rattle.format.specs.declared.Walk.{Walk}
 use Rattle.format.specs.declared.Walk.TheVariants as walks
 use Rattle.words.specs.Words.{word}
-use Rattle.leb128.specs.Formats.{u32}
+use Rattle.leb128.proofs.Formats.{u32}
 use Rattle.format.specs.Lists.{prints}
 use Rattle.leb128.specs.Leb.{uleb}
-use Rattle.leb128.specs.LebLaws.{leb_some}
+use Rattle.leb128.proofs.LebLaws.{leb_some}
 use Rattle.lists.specs.Member.{list_bytes, list_words}
 use Rattle.lists.specs.declared.Member.TheVariants.{Index}
 use Rattle.prefixes.specs.Prefix.{is_some, some_supers, supers_lead, supers_words, prefix_of}

@@ -19,7 +19,7 @@ use Rattle.format.specs.Walk.{Walks, nothing_there, value_there, walks_read}
 use Rattle.format.specs.declared.Done.{Done}
 use Rattle.format.specs.declared.Walk.{Walk}
 use Rattle.format.specs.declared.Walk.TheVariants as walks
-use Rattle.leb128.specs.Formats.{u32}
+use Rattle.leb128.proofs.Formats.{u32}
 use Rattle.leb128.specs.Leb.{uleb}
 use Rattle.words.specs.Words.{word}
 use Rattle.words.specs.WordWalks.{AreWords}

@@ -5,7 +5,7 @@ ghost use Rattle.format.specs.Basic.{flag};
 ghost use Rattle.format.specs.Leads.{LeadWalks, mark, option};
 ghost use Rattle.format.specs.Count.{silent};
 ghost use Rattle.format.specs.Walk.{Walks};
-ghost use Rattle.leb128.specs.Formats.{u32, index};
+ghost use Rattle.leb128.proofs.Formats.{u32, index};
 ghost use Rattle.lists.specs.Member.{list_words};
 ghost use Rattle.lists.specs.declared.Member.TheVariants.{Index};
 ghost use Rattle.words.specs.Words.{word};

@@ -4,7 +4,7 @@ ghost use Rattle.format.specs.Basic.{flag};
 ghost use Rattle.format.specs.Leads.{mark, option};
 ghost use Rattle.format.specs.Count.{silent};
 ghost use Rattle.format.specs.Walk.{Walks};
-ghost use Rattle.leb128.specs.Formats.{u32};
+ghost use Rattle.leb128.proofs.Formats.{u32};
 ghost use Rattle.words.specs.Words.{word};
 ghost use Rattle.prefixes.specs.Prefix.{supers_words, supers_lead};
 

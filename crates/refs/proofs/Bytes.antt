@@ -20,7 +20,7 @@ use Rattle.types.specs.Words.{ref_words}
 use Rattle.types.specs.declared.HeapAt.{HeapAt}
 use Rattle.types.specs.declared.HeapAt.TheVariants.{Is, No}
 use Rattle.types.specs.declared.RefAt.{RefAt}
-use Rattle.leb128.specs.Formats.{u32, index}
+use Rattle.leb128.proofs.Formats.{u32, index}
 use Rattle.numbers.specs.Answers.{read_u32}
 use Rattle.numbers.specs.Decoded.{number_missing, number_found, number_place}
 use Rattle.numbers.specs.declared.ReadU32.{ReadU32}

@@ -5,7 +5,7 @@ use Rattle.std.proofs.Common.{sym, true≢false, eqb-true}
 use Rattle.format.specs.Lists.{All}
 use Rattle.leb128.specs.Integers.{U}
 use Rattle.leb128.specs.Leb.{uleb}
-use Rattle.leb128.specs.Standard.{u_written}
+use Rattle.leb128.proofs.Standard.{u_written}
 use Rattle.frames.specs.Frames.{Frame}
 use Rattle.frames.specs.Ids.{sections, among}
 use Rattle.frames.specs.Tally.{items_of, joined}

@@ -6,7 +6,7 @@ use Rattle.format.specs.Combine.{pair}
 use Rattle.format.specs.Count.{silent}
 use Rattle.format.specs.Leads.{mark, option, led_joins, led_made}
 use Rattle.format.specs.Sequence.{Joins, joins, pair_joins}
-use Rattle.leb128.specs.Formats.{u32}
+use Rattle.leb128.proofs.Formats.{u32}
 use Rattle.words.specs.Words.{word}
 use Rattle.composites.specs.Composite.{inner_words, inner_bytes}
 use Rattle.prefixes.specs.Prefix.{supers_words, supers_lead}

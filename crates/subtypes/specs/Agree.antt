@@ -4,7 +4,7 @@ use Rattle.std.proofs.Math.Option.{Option, none, some}
 use Rattle.format.specs.Alternatives.{opt}
 use Rattle.format.specs.Agree.{Agree}
 use Rattle.format.specs.Leads.{option, mark}
-use Rattle.leb128.specs.Formats.{u32}
+use Rattle.leb128.proofs.Formats.{u32}
 use Rattle.words.specs.Words.{word}
 use Rattle.subtypes.specs.SubType.{sub_words, sub_bytes}
 use Rattle.composites.specs.Agree.{inner_agree}

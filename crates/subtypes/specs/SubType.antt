@@ -7,7 +7,7 @@ use Rattle.format.specs.Basic.{flag}
 use Rattle.format.specs.Combine.{pair, iso}
 use Rattle.format.specs.Alternatives.{Heads, opt}
 use Rattle.format.specs.Leads.{led, option, mark, heads_option, heads_mark}
-use Rattle.leb128.specs.Formats.{u32}
+use Rattle.leb128.proofs.Formats.{u32}
 use Rattle.words.specs.Words.{word}
 use Rattle.composites.specs.Composite.{Inner, inner_words, inner_bytes, Kind, func, array, struct, cont, kind_byte, heads_inner}
 use Rattle.prefixes.specs.Prefix.{supers_words, supers_lead}

@@ -1,7 +1,7 @@
 // Reading subtypes: what begins at a place of some bytes, and its words.
 ghost use Rattle.format.specs.Count.{silent};
 ghost use Rattle.format.specs.Walk.{Walks};
-ghost use Rattle.leb128.specs.Formats.{u32};
+ghost use Rattle.leb128.proofs.Formats.{u32};
 ghost use Rattle.subtypes.specs.SubType.{described_words, described_bytes, sub_words, sub_bytes};
 
 use composites::read_inner;

@@ -17,7 +17,7 @@ use Rattle.format.specs.Walk.{Walks, nothing_there, value_there, not_found, gone
 use Rattle.format.specs.declared.Done.{Done}
 use Rattle.format.specs.declared.Walk.{Walk}
 use Rattle.format.specs.declared.Walk.TheVariants as walks
-use Rattle.leb128.specs.Formats.{u32}
+use Rattle.leb128.proofs.Formats.{u32}
 use Rattle.leb128.specs.Leb.{uleb}
 use Rattle.numbers.specs.Answers.{read_u32}
 use Rattle.numbers.specs.Decoded.{number_missing, number_found, number_place}

@@ -5,7 +5,7 @@ mod reader;
 
 ghost use Rattle.std.specs.Prelude.{◌≡◌, cond, length};
 ghost use Rattle.format.specs.Count.{Adds, lowered};
-ghost use Rattle.leb128.specs.Formats.{u32};
+ghost use Rattle.leb128.proofs.Formats.{u32};
 ghost use Rattle.format.specs.Sized.{sized};
 ghost use Rattle.texts.specs.Text.{is_within, slice_of, is_kind, not_kind, past_of, refusal_of, named, constant, plain};
 

@@ -2,7 +2,7 @@
 ghost use Rattle.std.specs.Prelude.{◌≡◌, ◌≤◌, length, drop};
 ghost use Rattle.format.specs.Count.{Appends};
 ghost use Rattle.format.specs.Sized.{sized};
-ghost use Rattle.leb128.specs.Formats.{u32};
+ghost use Rattle.leb128.proofs.Formats.{u32};
 ghost use Rattle.exprs.specs.Laws.{expr};
 ghost use Rattle.texts.specs.Judge.{text_most};
 ghost use Rattle.texts.specs.Spans.{span};

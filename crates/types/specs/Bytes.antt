@@ -7,7 +7,7 @@ use Rattle.format.specs.Basic.{tag}
 use Rattle.format.specs.Combine.{iso}
 use Rattle.format.specs.Alternatives.{Heads, is, alt, heads_tag, heads_alt, heads_code}
 use Rattle.format.specs.Leads.{led, mark, heads_mark}
-use Rattle.leb128.specs.Formats.{u32, index, heads_index}
+use Rattle.leb128.proofs.Formats.{u32, index, heads_index}
 use Rattle.types.specs.Abstract.{byte_of, byte_range, abstract_byte}
 use Rattle.types.specs.declared.AbstractHeapType.{AbstractHeapType}
 use Rattle.types.specs.declared.HeapType.{HeapType}

@@ -14,7 +14,7 @@ use Rattle.format.specs.Walk.{Walks, nothing_there, value_there}
 use Rattle.format.specs.declared.Done.{Done}
 use Rattle.format.specs.declared.Walk.TheVariants as walks
 use Rattle.leb128.specs.Leb.{uleb}
-use Rattle.leb128.specs.Formats.{u64}
+use Rattle.leb128.proofs.Formats.{u64}
 use Rattle.numbers.specs.Answers.{read_u64}
 use Rattle.numbers.specs.declared.ReadU64.{ReadU64}
 use Rattle.numbers.specs.declared.ReadU64.TheVariants as U64

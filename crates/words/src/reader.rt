@@ -1,7 +1,7 @@
 // Reading numbers: what begins at a place of some bytes, and its words.
 ghost use Rattle.format.specs.Count.{silent};
 ghost use Rattle.format.specs.Walk.{Walks};
-ghost use Rattle.leb128.specs.Formats.{u32, u64};
+ghost use Rattle.leb128.proofs.Formats.{u32, u64};
 ghost use Rattle.words.specs.Words.{word};
 ghost use Rattle.words.specs.Number64.{number64};
 

@@ -2,7 +2,7 @@
 ghost use Rattle.std.specs.Prelude.{List, [], ℕ};
 ghost use Rattle.format.specs.Count.{silent};
 ghost use Rattle.format.specs.Walk.{Walks};
-ghost use Rattle.leb128.specs.Formats.{u32, u64};
+ghost use Rattle.leb128.proofs.Formats.{u32, u64};
 ghost use Rattle.words.specs.Words.{word, unused};
 ghost use Rattle.words.specs.Number64.{number64};
 

@@ -1,7 +1,7 @@
 -- `numbers::decode_index` meets its contract: negative numbers and those of more than 32 bits are no index. Assumes nothing.
 use Prim.Native.Nat.{◌^◌}
 use Rattle.leb128.specs.Leb.{signed}
-use Rattle.leb128.specs.Formats.{index_fits}
+use Rattle.leb128.proofs.Formats.{index_fits}
 use Rattle.numbers.proofs.Answering.{natural_none, index_found, natural_negative, natural_over}
 use Rattle.numbers.proofs.decode_index.Goals as goal
 

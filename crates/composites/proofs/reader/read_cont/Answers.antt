@@ -1,5 +1,5 @@
 -- `composites::reader::read_cont` meets its contract. Assumes nothing.
-use Rattle.leb128.specs.Formats.{index}
+use Rattle.leb128.proofs.Formats.{index}
 use Rattle.numbers.specs.Decoded.{no_number, one_number}
 use Rattle.composites.proofs.reader.read_cont.Goals as goal
 

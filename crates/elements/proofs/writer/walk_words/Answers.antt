@@ -16,4 +16,4 @@ pub returns-in_default-walk_place : goal.returns-in_default-walk_place
 returns-in_default-walk_place c = search place_missing
 
 pub returns : goal.returns
-returns c = let d = (let k : tie.After-m = search in k.find_mode.ensures) in search elements_follow
+returns c = let d = c.find_mode.ensures in search elements_follow

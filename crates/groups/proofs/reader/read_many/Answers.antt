@@ -1,5 +1,5 @@
 -- `groups::reader::read_many` meets its contract: the count, and then so many subtypes. Assumes nothing.
-use Rattle.leb128.specs.Formats.{u32}
+use Rattle.leb128.proofs.Formats.{u32}
 use Rattle.numbers.specs.Decoded.{number_place}
 use Rattle.parts.specs.ListWalks.{list_not_read, list_too_large, list_reads}
 use Rattle.groups.specs.RecGroup.{sub_type, sub_bytes_long}

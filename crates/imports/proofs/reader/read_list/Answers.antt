@@ -1,5 +1,5 @@
 -- `imports::reader::read_list` meets its contract: the count, and then so many members. Assumes nothing.
-use Rattle.leb128.specs.Formats.{u32}
+use Rattle.leb128.proofs.Formats.{u32}
 use Rattle.numbers.specs.Decoded.{number_place}
 use Rattle.imports.proofs.Members.{list_not_read, list_too_large, list_reads}
 use borrow.Author.Rules.{rules}

@@ -1,5 +1,5 @@
 -- `lists::reader::read_list` meets its contract: the count, and then so many members. Assumes nothing.
-use Rattle.leb128.specs.Formats.{u32}
+use Rattle.leb128.proofs.Formats.{u32}
 use Rattle.numbers.specs.Decoded.{number_place}
 use Rattle.lists.proofs.Members.{no_count, count_too_large, then_members}
 use Rattle.lists.proofs.reader.read_list.Goals as goal

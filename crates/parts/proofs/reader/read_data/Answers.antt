@@ -1,6 +1,6 @@
 -- `parts::reader::read_data` meets its contract: it was found, or not. Assumes nothing.
 use Rattle.format.specs.Sized.{sized}
-use Rattle.leb128.specs.Formats.{u32}
+use Rattle.leb128.proofs.Formats.{u32}
 use Rattle.texts.specs.Text.{plain}
 use Rattle.texts.specs.Place.{sized_at}
 use Rattle.parts.specs.Text.{plain_holds}

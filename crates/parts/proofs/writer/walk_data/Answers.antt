@@ -1,6 +1,6 @@
 -- `parts::writer::walk_data` meets its contract: a span, and what is written of it. Assumes nothing.
 use Rattle.format.specs.Sized.{sized}
-use Rattle.leb128.specs.Formats.{u32}
+use Rattle.leb128.proofs.Formats.{u32}
 use Rattle.texts.specs.Text.{plain}
 use Rattle.texts.specs.Place.{sized_at}
 use Rattle.parts.specs.Text.{plain_holds}

@@ -1,6 +1,6 @@
 -- `refs::reader::find_index` meets its contract. Assumes nothing.
 use mathlib.Core.Logic.{inl, inr}
-use Rattle.leb128.specs.Formats.{u32, index}
+use Rattle.leb128.proofs.Formats.{u32, index}
 use Rattle.refs.proofs.Bytes.{no_idx, idx_exact, idx_concrete, idx_none, idx_is}
 use Rattle.refs.proofs.reader.find_index.Goals as goal
 

@@ -9,8 +9,8 @@ use borrow.Author.Tests.{le-leb, lt-leb}
 use Rattle.format.specs.Parsed.{fail, got, got_rest}
 use Rattle.format.specs.Read.{told_found, told_nothing, read_on, begins, same_place}
 use Rattle.leb128.specs.Leb.{uleb, unsigned}
-use Rattle.leb128.specs.LebLaws.{leb_some}
-use Rattle.leb128.specs.Formats.{u32}
+use Rattle.leb128.proofs.LebLaws.{leb_some}
+use Rattle.leb128.proofs.Formats.{u32}
 use Rattle.numbers.specs.Answers.{read_u32}
 use Rattle.texts.proofs.reader.find_data.Goals as goal
 

@@ -1,5 +1,5 @@
 -- `words::reader::read_index` meets its contract. Assumes nothing.
-use Rattle.leb128.specs.Formats.{u32}
+use Rattle.leb128.proofs.Formats.{u32}
 use Rattle.numbers.specs.Decoded.{no_number, one_number}
 use Rattle.words.proofs.reader.read_index.Goals as goal
 

@@ -5,8 +5,8 @@ use Rattle.std.proofs.Common.{ap, ◌∙◌, ⊎_elim, eq-zero-or-pos, add-one, 
 use Rattle.std.specs.Int.Count.{count_leading_zeros, leading_of_zero}
 use Rattle.std.proofs.lemmas.Nat.{leading_top}
 use Rattle.std.specs.Int.Signed.{mag}
-use Rattle.leb128.specs.Leb.{leb}
-use Rattle.leb128.specs.LebLaws.{limit_is, limit_some, sign_bits, leb_last, leb_some, bytes_at_most, bytes_above}
+use Rattle.leb128.specs.Leb.{leb, sign_bits}
+use Rattle.leb128.proofs.LebLaws.{limit_is, limit_some, leb_last, leb_some, bytes_at_most, bytes_above}
 
 -- the bit at k is the highest that is set in a: 2^k ≤ a < 2^(k+1)
 pub record Highest (a k : ℕ) : Type 0 where

@@ -10,7 +10,7 @@ use Rattle.std.specs.Int.Signed.{mag, shr_z}
 use Rattle.std.proofs.Math.Arith.{digits_div, digits_mod}
 use Rattle.format.specs.Parsed.{Parsed, fail, got, got_value, got_rest, fail_got, map, map_inv, cond_inv}
 use Rattle.format.specs.Write.{fits_or}
-use Rattle.leb128.specs.Leb.{within, limit, low, leb, leb_by, last_of, join, wide}
+use Rattle.leb128.specs.Leb.{within, limit, sign_bits, low, leb, leb_by, last_of, join, wide}
 
 -- ---- seven bits, taken off and put back
 
@@ -292,11 +292,6 @@ bytes_above zero s z h = rw (leb_more s z h) (omega (arith, leb_some s (shr_z z 
 bytes_above (suc m) s z h =
     let g : limit s ≤ mag z = omega (arith, limit_first s m) in
     rw (leb_more s z g) (omega (arith, bytes_above m s (shr_z z 128) (omega (arith, mag_shr z))))
-
--- the bit that a sign takes
-abbrev pub sign_bits : Bool → ℕ
-sign_bits false = 0
-sign_bits true = 1
 
 pub limit_is : (s : Bool) (m : ℕ) → limit_of s m ≡ 2 ^ (7 * m + (7 - sign_bits s))
 limit_is false zero = refl

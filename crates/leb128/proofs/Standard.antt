@@ -7,7 +7,7 @@ use Rattle.format.specs.Parsed.{got}
 use Rattle.format.specs.Write.{fits_or}
 use Rattle.leb128.specs.Integers.{U, u_last, u_more, S, s_low, s_high, s_more}
 use Rattle.leb128.specs.Leb.{unsigned, signed, within, last_of, join, wide, uleb, sleb}
-use Rattle.leb128.specs.LebLaws.{wide_last, wide_more, wide_back, wide_front, Front, wide_form}
+use Rattle.leb128.proofs.LebLaws.{wide_last, wide_more, wide_back, wide_front, Front, wide_form}
 
 -- ---- the values, in the integers' own sum and product
 

@@ -10,7 +10,7 @@ use Rattle.format.specs.Basic.{Part, via}
 use Rattle.format.specs.Alternatives.{Heads}
 use Rattle.format.specs.Write.{fits_or}
 use Rattle.leb128.specs.Leb.{unsigned, signed, within, limit, low, leb, wide, short, taken}
-use Rattle.leb128.specs.LebLaws.{wide_back, wide_form, leb_last, leb_more, low_small}
+use Rattle.leb128.proofs.LebLaws.{wide_back, wide_form, leb_last, leb_more, low_small}
 
 -- ---- a number of N bits
 
