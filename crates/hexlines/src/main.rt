@@ -5,16 +5,16 @@ ghost use Rattle.std.specs.Prelude.{◌≡◌, ◌≤◌, length};
 ghost use Rattle.replies.specs.Input.{kept_most};
 ghost use Rattle.replies.specs.Run.{store_long, buffer_long, longest, Ready, HearsAll};
 
-use libc::{STDERR_FILENO, STDIN_FILENO, STDOUT_FILENO};
 use replies::{Run, end_input, take_piece};
+use std::io::{Print, Read};
 use thriftbell::State;
 
-fn read_piece(piece: &mut [u8]) -> isize {
-    let got = libc::read(STDIN_FILENO, piece);
-    if got < 0 {
-        io::write_all(STDERR_FILENO, b"hexlines: reading failed\n");
+// Whether all of some bytes was written.
+fn is_written<W: Print>(to: &W, bytes: &[u8]) -> bool {
+    match to.write_all(bytes) {
+        Ok(()) => true,
+        Err(_) => false,
     }
-    got
 }
 
 // The run behind all of a piece, and whether what was said is written.
@@ -25,7 +25,8 @@ struct Turn {
 }
 
 // All of a piece, part by part: what was said to each is written before the next is heard, and nothing waits in the end.
-fn hear_piece(
+fn hear_piece<W: Print>(
+    output: &W,
     piece: &[u8],
     r: Run,
     line: &mut [u8],
@@ -42,7 +43,7 @@ fn hear_piece(
         let h = take_piece(&piece[i..], run, line, store, buffer, out);
         let said = h.run;
         let at = said.at;
-        let ok = io::write_all(STDOUT_FILENO, &out[0..at]);
+        let ok = is_written(output, &out[0..at]);
         let state = said.state;
         run = Run {
             state: state,
@@ -61,7 +62,10 @@ fn hear_piece(
 }
 
 // Nothing says that the input ends, so the turns are counted down from a number that no run uses up. Before each read nothing waits to be written.
-fn answer_all(
+fn answer_all<I: Read, W: Print, E: Print>(
+    input: &mut I,
+    output: &W,
+    errors: &E,
     piece: &mut [u8],
     line: &mut [u8],
     store: &mut [u8],
@@ -79,11 +83,10 @@ fn answer_all(
     };
     let mut turns = u64::MAX;
     while 0 < turns {
-        let got = read_piece(piece);
-        if got < 0 {
+        let Ok(n) = input.read(piece) else {
+            is_written(errors, b"hexlines: reading failed\n");
             return Turn { run: run, ok: true };
-        }
-        let n = io::count(got, piece);
+        };
         if n == 0 {
             let last = end_input(run, line, store, buffer, out);
             return Turn {
@@ -91,7 +94,7 @@ fn answer_all(
                 ok: true,
             };
         }
-        let t = hear_piece(&piece[0..n], run, line, store, buffer, out);
+        let t = hear_piece(output, &piece[0..n], run, line, store, buffer, out);
         if !t.ok {
             return t;
         }
@@ -101,17 +104,29 @@ fn answer_all(
     Turn { run: run, ok: true }
 }
 
-fn main() {
+fn main(rt: HostRuntime) {
+    let mut input = rt.stdin();
+    let output = rt.stdout();
+    let errors = rt.stderr();
     let mut piece = [0u8; 65536];
     let mut line = [0u8; 8193];
     let mut store = [0u8; 32768];
     let mut buffer = [0u8; 32768];
     let mut out = [0u8; 131072];
-    let t = answer_all(&mut piece, &mut line, &mut store, &mut buffer, &mut out);
+    let t = answer_all(
+        &mut input,
+        &output,
+        &errors,
+        &mut piece,
+        &mut line,
+        &mut store,
+        &mut buffer,
+        &mut out,
+    );
     let run = t.run;
     let at = run.at;
-    if t.ok && io::write_all(STDOUT_FILENO, &out[0..at]) {
+    if t.ok && is_written(&output, &out[0..at]) {
         return;
     }
-    io::write_all(STDERR_FILENO, b"hexlines: writing failed\n");
+    is_written(&errors, b"hexlines: writing failed\n");
 }

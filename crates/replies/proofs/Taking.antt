@@ -7,9 +7,8 @@ use native.Mathlib.Omega.{arith}
 use lib.ListN.{length, take, drop}
 use mir.Syntax.{w64}
 use mir.Val.{Fits}
-use Rattle.bytes.specs.Bytes.{slice, index_of}
 use Rattle.format.specs.Write.{fits_or}
-use Rattle.replies.specs.Input.{Kept, more, hears}
+use Rattle.replies.specs.Input.{Kept, more, hears, feed_at}
 use Rattle.replies.specs.Run.{longest, Ready, Shows, Gathered, Ends, Takes}
 use Rattle.replies.specs.Keeping.{Keeps, all_kept, still_kept}
 use Rattle.replies.specs.declared.Run.{Run}
@@ -34,7 +33,7 @@ module _ {piece : List ℕ} {r : Run} {line store buffer out : List ℕ} {s : Ru
   pub all_taken : length piece ≤ i → Takes piece r line store buffer out s i line' store' buffer' out'
   all_taken h = record { ready = t.ready; within = t.within; some = λ z k. omega arith; shows = t.shows }
 
-  module _ {end : ℕ} (e : end ≡ i + index_of 0x0A (slice i (length piece) piece)) where
+  module _ {end : ℕ} (e : end ≡ i + feed_at (drop i piece)) where
     -- there is a next character, and fewer are left
     pub next_fits : end < length piece → Fits w64 (end + 1)
     next_fits h = record { fits = omega arith }

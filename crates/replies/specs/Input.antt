@@ -1,5 +1,6 @@
 -- What the program says to its input, character by character (document 01, Hex lines: "Each line is answered by one line"). Assumes nothing.
 use Rattle.std.specs.Prelude.{◌≡◌, refl, false, cond, List, [], ◌∷◌, ◌++◌, ℕ, zero, suc, ◌<◌, ◌≤◌, eqb, length, take}
+use Rattle.std.specs.List.{position_or_len}
 use Rattle.std.proofs.Common.{sym, ap, ◌∙◌, ⊎_elim, append-nil, append_assoc, arith, length-take, take_all, eq-eqb, ne_eqb}
 use Rattle.std.proofs.Math.Option.{Option}
 use Rattle.format.specs.Write.{fits_or}
@@ -42,6 +43,10 @@ more k part = record { state = k.state; store = k.store; buffer = k.buffer; line
 -- a character, and some
 unfoldable pub heard : Kept → ℕ → Kept
 heard k c = cond (eqb c 0x0A) (ended k) (more k (c ∷ []))
+
+-- where the first line feed of some characters stands, or how many they are
+unfoldable pub feed_at : List ℕ → ℕ
+feed_at xs = position_or_len (λ c. eqb c 0x0A) xs
 
 abbrev pub hears : Kept → List ℕ → Kept
 hears k [] = k

@@ -1,9 +1,11 @@
 // Lines out of pieces: what is gathered of a line, and a line that ends.
-ghost use Rattle.std.specs.Prelude.{◌+◌, ◌≤◌, length};
+ghost use Rattle.std.specs.Prelude.{◌≡◌, ◌+◌, ◌≤◌, length, drop};
+ghost use Rattle.replies.specs.Input.{feed_at};
 ghost use Rattle.replies.specs.Run.{longest, Ready, Gathered, Takes, Closes};
 
 use crate::reply::end_line;
 use crate::{Heard, Run};
+use memchr::memchr;
 
 // The longest answer: two digits, those of a module that fills its buffer, and the line feed.
 const LONGEST: usize = 65539;
@@ -24,6 +26,18 @@ fn gather(part: &[u8], r: Run, line: &mut [u8]) -> Run
     }
 }
 
+// Where the next line feed of a piece stands from a place on, or the piece's end.
+fn line_end(piece: &[u8], from: usize) -> usize
+    requires { from ≤ length piece.now }
+    ensures within { result ≤ length piece.now }
+    ensures value { result ≡ from + feed_at (drop from piece.now) }
+{
+    match memchr(b'\n', &piece[from..]) {
+        Some(n) => from + n,
+        None => piece.len(),
+    }
+}
+
 // A line may have begun in an earlier piece, and may go on in a later one. The piece is heard to its end, or to the end of a line whose answer might not fit
 // behind those that wait: it is heard from there on once they are written.
 pub fn take_piece(
@@ -40,7 +54,7 @@ pub fn take_piece(
     let mut run = r;
     let mut i = 0;
     while i < piece.len() {
-        let end = bytes::scan::find(piece, i, piece.len(), b'\n');
+        let end = line_end(piece, i);
         run = gather(&piece[i..end], run, line);
         if piece.len() <= end {
             return Heard { run: run, to: end };
