@@ -1,7 +1,7 @@
 // The hex-line program: each line of standard input is answered by one line of standard output.
 #![tactic(auto)]
 
-ghost use Rattle.std.specs.Prelude.{◌≡◌, ◌≤◌, length};
+ghost use Rattle.std.specs.Prelude.{◌≡◌, ◌≤◌, length, IfSome};
 ghost use Rattle.replies.specs.Input.{kept_most};
 ghost use Rattle.replies.specs.Run.{store_long, buffer_long, longest, Ready, HearsAll};
 
@@ -11,10 +11,18 @@ use thriftbell::State;
 
 // Whether all of some bytes was written.
 fn is_written<W: Print>(to: &W, bytes: &[u8]) -> bool {
-    match to.write_all(bytes) {
-        Ok(()) => true,
-        Err(_) => false,
+    to.write_all(bytes).is_ok()
+}
+
+// How many bytes of the input now stand in a piece; none where reading failed, which is said.
+fn read_piece<I: Read, E: Print>(input: &mut I, errors: &E, piece: &mut [u8]) -> Option<usize>
+    ensures { IfSome result (λ n. n ≤ length piece.new) }
+{
+    let got = input.read(piece).ok();
+    if got.is_none() {
+        is_written(errors, b"hexlines: reading failed\n");
     }
+    got
 }
 
 // The run behind all of a piece, and whether what was said is written.
@@ -83,8 +91,7 @@ fn answer_all<I: Read, W: Print, E: Print>(
     };
     let mut turns = u64::MAX;
     while 0 < turns {
-        let Ok(n) = input.read(piece) else {
-            is_written(errors, b"hexlines: reading failed\n");
+        let Some(n) = read_piece(input, errors, piece) else {
             return Turn { run: run, ok: true };
         };
         if n == 0 {
