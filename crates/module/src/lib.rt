@@ -45,9 +45,9 @@ pub fn put_header(out: &mut [u8]) -> Written
 }
 
 fn build(frames: &[u8], order: &[u8], given: Given, out: &mut [u8]) -> Finished
-    requires order_value { all_among order_ids order.now ≡ true }
-    requires order_len_bound { length order.now ≤ order_most }
-    requires frames_len_bound { length frames.now ≤ store_most }
+    requires listed { all_among order_ids order.now ≡ true }
+    requires few_ids { length order.now ≤ order_most }
+    requires frames_within { length frames.now ≤ store_most }
     ensures { outcome result out.new ≡ building (ending order.now given) (run frame frames.now) out.old }
 {
     let t = frames::tally(frames);

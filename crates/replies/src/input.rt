@@ -71,7 +71,7 @@ pub fn take_piece(
 // A last line may lack its line feed; nothing after the last line feed is no line.
 pub fn end_input(r: Run, line: &[u8], store: &mut [u8], buffer: &mut [u8], out: &mut [u8]) -> Run
     requires ready { Ready r line.now store.old buffer.old out.old }
-    requires longest_in_bounds { r.at + longest ≤ length out.old }
+    requires room { r.at + longest ≤ length out.old }
     ensures { Closes r line.now store.old buffer.old out.old result store.new buffer.new out.new }
 {
     if r.n == 0 {

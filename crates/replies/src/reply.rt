@@ -30,7 +30,7 @@ fn reply(line: &[u8], r: Run, store: &mut [u8], buffer: &mut [u8], out: &mut [u8
 // The line that is gathered is at its end.
 pub fn end_line(r: Run, line: &[u8], store: &mut [u8], buffer: &mut [u8], out: &mut [u8]) -> Run
     requires ready { Ready r line.now store.old buffer.old out.old }
-    requires longest_in_bounds { r.at + longest ≤ length out.old }
+    requires room { r.at + longest ≤ length out.old }
     ensures { Ends r line.now store.old buffer.old out.old result store.new buffer.new out.new }
 {
     let n = r.n;

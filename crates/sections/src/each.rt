@@ -15,10 +15,10 @@ use crate::section::{count_of, put_section};
 use frames::Tallies;
 
 pub fn put_each(frames: &[u8], order: &[u8], t: Tallies, given: Given, out: &mut [u8]) -> usize
-    requires order_value { all_among order_ids order.now ≡ true }
-    requires t_value { (t ≡ tally_of (run frame frames.now)) × (no_frames (run frame frames.now) ≡ false) }
-    requires frames_len_bound { length frames.now ≤ store_most }
-    requires order_in_bounds { length (prints (section_of given (frames_of frames.now)) order.now) ≤ length out.old }
+    requires listed { all_among order_ids order.now ≡ true }
+    requires tallied { (t ≡ tally_of (run frame frames.now)) × (no_frames (run frame frames.now) ≡ false) }
+    requires frames_within { length frames.now ≤ store_most }
+    requires room { length (prints (section_of given (frames_of frames.now)) order.now) ≤ length out.old }
     ensures { Writes (prints (section_of given (frames_of frames.now)) order.now) out.old out.new (Length result) }
 {
     let counts = t.counts;

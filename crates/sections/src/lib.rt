@@ -29,11 +29,11 @@ pub struct Given {
 
 // How many bytes the sections of an order list have.
 pub fn sections_len(order: &[u8], t: Tallies, given: Given) -> usize
-    requires order_value { all_among order_ids order.now ≡ true }
-    requires order_len_bound { length order.now ≤ order_most }
-    requires by_index { (i : ℕ) → i < 16 → get_or t.totals i 0 ≤ store_most }
-    ensures by_index_2 { (s : List ℕ) → t ≡ tally_of (run frame s) → result ≡ length (prints (section_of given (frames_of s)) order.now) }
-    ensures upper_bound { result ≤ order_most * (store_most + 21) }
+    requires listed { all_among order_ids order.now ≡ true }
+    requires few_ids { length order.now ≤ order_most }
+    requires totals_within { (i : ℕ) → i < 16 → get_or t.totals i 0 ≤ store_most }
+    ensures value { (s : List ℕ) → t ≡ tally_of (run frame s) → result ≡ length (prints (section_of given (frames_of s)) order.now) }
+    ensures bound { result ≤ order_most * (store_most + 21) }
 {
     let counts = t.counts;
     let totals = t.totals;
@@ -50,10 +50,10 @@ pub fn sections_len(order: &[u8], t: Tallies, given: Given) -> usize
 
 // One walk over the frames serves all sections, where no id is listed twice; for one section alone `put_each` is the quicker.
 pub fn put_sections(frames: &[u8], order: &[u8], t: Tallies, given: Given, out: &mut [u8]) -> usize
-    requires order_value { all_among order_ids order.now ≡ true }
-    requires t_value { (t ≡ tally_of (run frame frames.now)) × (no_frames (run frame frames.now) ≡ false) }
-    requires frames_len_bound { length frames.now ≤ store_most }
-    requires order_in_bounds { length (prints (section_of given (frames_of frames.now)) order.now) ≤ length out.old }
+    requires listed { all_among order_ids order.now ≡ true }
+    requires tallied { (t ≡ tally_of (run frame frames.now)) × (no_frames (run frame frames.now) ≡ false) }
+    requires frames_within { length frames.now ≤ store_most }
+    requires room { length (prints (section_of given (frames_of frames.now)) order.now) ≤ length out.old }
     ensures { Writes (prints (section_of given (frames_of frames.now)) order.now) out.old out.new (Length result) }
 {
     if 1 < order.len() && is_once(order) {

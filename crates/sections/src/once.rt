@@ -42,9 +42,9 @@ pub fn is_once(order: &[u8]) -> bool
 
 // The heads of the sections, with room for the items behind each.
 fn put_heads(order: &[u8], t: Tallies, given: Given, out: &mut [u8]) -> Heads
-    requires order_value { (all_among order_ids order.now ≡ true) × Once order.now }
-    requires by_index { (i : ℕ) → i < 16 → get_or t.totals i 0 ≤ store_most }
-    requires order_in_bounds { room_of (plan_of t.counts t.totals given) order.now ≤ length out.old }
+    requires listed { (all_among order_ids order.now ≡ true) × Once order.now }
+    requires totals_within { (i : ℕ) → i < 16 → get_or t.totals i 0 ≤ store_most }
+    requires room { room_of (plan_of t.counts t.totals given) order.now ≤ length out.old }
     ensures { Headed (plan_of t.counts t.totals given) order.now out.old out.new result.places result.n }
 {
     let counts = t.counts;
@@ -69,10 +69,10 @@ fn put_heads(order: &[u8], t: Tallies, given: Given, out: &mut [u8]) -> Heads
 
 // Each item goes behind the last of its section.
 pub fn put_once(frames: &[u8], order: &[u8], t: Tallies, given: Given, out: &mut [u8]) -> usize
-    requires order_value { (all_among order_ids order.now ≡ true) × Once order.now }
-    requires t_value { (t ≡ tally_of (run frame frames.now)) × (no_frames (run frame frames.now) ≡ false) }
-    requires frames_len_bound { length frames.now ≤ store_most }
-    requires order_in_bounds { length (prints (section_of given (frames_of frames.now)) order.now) ≤ length out.old }
+    requires listed { (all_among order_ids order.now ≡ true) × Once order.now }
+    requires tallied { (t ≡ tally_of (run frame frames.now)) × (no_frames (run frame frames.now) ≡ false) }
+    requires frames_within { length frames.now ≤ store_most }
+    requires room { length (prints (section_of given (frames_of frames.now)) order.now) ≤ length out.old }
     ensures { Writes (prints (section_of given (frames_of frames.now)) order.now) out.old out.new (Length result) }
 {
     let h = put_heads(order, t, given, out);

@@ -46,8 +46,8 @@ fn put_number(n: usize, out: &mut [u8]) -> usize
 
 // What stands before the items of a section.
 pub fn put_head(id: u8, count: usize, total: usize, out: &mut [u8]) -> usize
-    requires total_le_store_most { total ≤ store_most }
-    requires total_in_bounds { length (head_of id count total) ≤ length out.old }
+    requires total_within { total ≤ store_most }
+    requires room { length (head_of id count total) ≤ length out.old }
     ensures { Writes (head_of id count total) out.old out.new (Length result) }
 {
     out[0] = id;
@@ -57,9 +57,9 @@ pub fn put_head(id: u8, count: usize, total: usize, out: &mut [u8]) -> usize
 
 // The items of a section, of which there are so many bytes: the walk ends with the last of them.
 fn put_items(frames: &[u8], id: u8, total: usize, out: &mut [u8]) -> usize
-    requires frames_value { no_frames (run frame frames.now) ≡ false }
-    requires total_value { total ≡ length (item_bytes id frames.now) }
-    requires total_in_bounds { total ≤ length out.old }
+    requires framed { no_frames (run frame frames.now) ≡ false }
+    requires totalled { total ≡ length (item_bytes id frames.now) }
+    requires room { total ≤ length out.old }
     ensures { Writes (item_bytes id frames.now) out.old out.new (Length result) }
 {
     let mut n: usize = 0;
@@ -80,9 +80,9 @@ fn put_items(frames: &[u8], id: u8, total: usize, out: &mut [u8]) -> usize
 
 // A section, as the Rust's `encode_section` writes it behind its id.
 pub fn put_section(frames: &[u8], id: u8, count: usize, total: usize, out: &mut [u8]) -> usize
-    requires frames_value { no_frames (run frame frames.now) ≡ false }
-    requires total_value { (total ≡ length (item_bytes id frames.now)) × (total ≤ store_most) }
-    requires frames_in_bounds { length (section id (uleb count ++ item_bytes id frames.now)) ≤ length out.old }
+    requires framed { no_frames (run frame frames.now) ≡ false }
+    requires totalled { (total ≡ length (item_bytes id frames.now)) × (total ≤ store_most) }
+    requires room { length (section id (uleb count ++ item_bytes id frames.now)) ≤ length out.old }
     ensures { Writes (section id (uleb count ++ item_bytes id frames.now)) out.old out.new (Length result) }
 {
     let n = put_head(id, count, total, out);

@@ -10,10 +10,10 @@ pub returns-then-not-t : goal.returns-then-not-t
 returns-then-not-t c = search unframed_refused
 
 pub sections_len-requires : goal.sections_len-requires
-sections_len-requires c = record { order_value = search rules; order_len_bound = search rules; by_index = search total_few }
+sections_len-requires c = record { listed = search rules; few_ids = search rules; totals_within = search total_few }
 
 pub overflow_add-sections_len : goal.overflow_add-sections_len
-overflow_add-sections_len c = omega (arith, c.sections_len.ensures.upper_bound)
+overflow_add-sections_len c = omega (arith, c.sections_len.ensures.bound)
 
 pub returns-then-out-sections_len : goal.returns-then-out-sections_len
 returns-then-out-sections_len c = search short_refused
@@ -26,7 +26,7 @@ slice_bounds-put_sections-start c = search header_behind
 
 pub put_sections-requires : goal.put_sections-requires
 put_sections-requires c =
-    record { order_value = search rules; t_value = (search rules, search frames_there); frames_len_bound = search rules; order_in_bounds = search sections_room }
+    record { listed = search rules; tallied = (search rules, search frames_there); frames_within = search rules; room = search sections_room }
 
 pub overflow_add-result : goal.overflow_add-result
 overflow_add-result c = search module_fits

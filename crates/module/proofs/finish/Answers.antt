@@ -16,7 +16,7 @@ pub slice_bounds-build-end : goal.slice_bounds-build-end
 slice_bounds-build-end c = search used_within
 
 pub build-requires : goal.build-requires
-build-requires c = record { order_value = search order_listed; order_len_bound = search rules; frames_len_bound = search used_few }
+build-requires c = record { listed = search order_listed; few_ids = search rules; frames_within = search used_few }
 
 pub returns : goal.returns
 returns c = search built

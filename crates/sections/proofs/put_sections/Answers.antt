@@ -5,4 +5,4 @@ use Rattle.sections.proofs.put_sections.Goals as goal
 
 pub put_once-requires : goal.put_once-requires
 put_once-requires c =
-    record { order_value = (search rules, search once_told); t_value = search rules; frames_len_bound = search rules; order_in_bounds = search rules }
+    record { listed = (search rules, search once_told); tallied = search rules; frames_within = search rules; room = search rules }

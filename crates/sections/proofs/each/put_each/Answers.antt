@@ -31,7 +31,7 @@ slice_bounds-put_section-start c = search behind_starts
 
 pub put_section-n-requires : goal.put_section-n-requires
 put_section-n-requires c =
-    record { frames_value = search rules; total_value = (search (total_told, next_below), search (total_few, next_below)); frames_in_bounds = search put_room }
+    record { framed = search rules; totalled = (search (total_told, next_below), search (total_few, next_below)); room = search put_room }
 
 pub overflow_add-n : goal.overflow_add-n
 overflow_add-n c = search behind_fits

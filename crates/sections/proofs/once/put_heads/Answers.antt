@@ -30,7 +30,7 @@ pub slice_bounds-put_head-start : goal.slice_bounds-put_head-start
 slice_bounds-put_head-start c = search behind_starts
 
 pub put_head-n-requires : goal.put_head-n-requires
-put_head-n-requires c = record { total_le_store_most = search next_few; total_in_bounds = search heading_room }
+put_head-n-requires c = record { total_within = search next_few; room = search heading_room }
 
 pub overflow_add-n : goal.overflow_add-n
 overflow_add-n c = search behind_fits
