@@ -99,7 +99,7 @@ first s z p v h k =
     (λ (g : mag z < limit s). (low z, [], leb_last s z g, h g))
     (fits_or (limit s) (mag z))
 
--- u_n and s_n: any byte
+-- uN and sN: any byte
 pub heads_integer : (s : Bool) (N : ℕ) (p : ℕ → Bool) (v : Bool) → ((x : ℕ) → x < 256 → p x ≡ v) → Heads (integer s N) p v
 heads_integer s N p v h z ok = first s z p v (λ g. h (low z) (omega (arith, low_small z))) (λ x a b. h x b)
 

@@ -1,4 +1,4 @@
--- The reading is the standard's: it finds a value exactly where the grammar of u_n or s_n has one, of those bytes; and the form that is written is the
+-- The reading is the standard's: it finds a value exactly where the grammar of uN or sN has one, of those bytes; and the form that is written is the
 -- shortest that the grammar has. Assumes nothing.
 use Rattle.std.specs.Prelude.{◌≡◌, refl, List, [], ◌∷◌, ◌++◌, true, ℕ, suc, ◌+◌, ◌-◌, ◌*◌, ◌≤◌, ◌<◌, ◌^◌, ℤ, pos, negsuc, ◌+ℤ◌, ◌-ℤ◌, ◌*ℤ◌, length}
 use Rattle.std.proofs.Common.{sym, ap, subst, ◌∙◌, ⊎_elim, append-nil, arith, lt-ltb, le-ltb, ltb-true}
@@ -27,7 +27,7 @@ join_is (negsuc m) n h k =
 last_high : (n : ℕ) → 64 ≤ n → n < 128 → pos n -ℤ pos 128 ≡ last_of signed n
 last_high n h k = sub_below n 127 k ∙ sym (rw (le-ltb n 64 h))
 
--- ---- u_n
+-- ---- uN
 
 pub u_wide : {N n : ℕ} {s : List ℕ} → U N s n → (r : List ℕ) → wide unsigned N (s ++ r) ≡ got (pos n) r
 u_wide (u_last N n h k) r = wide_last unsigned N n r h (lt-ltb n (2 ^ N) k)
@@ -35,7 +35,7 @@ u_wide (u_more N n m s k h l u) r =
     let e : m * 128 + (n - 128) ≡ 128 * m + (n - 128) = omega arith in
     wide_more unsigned N n (s ++ r) h k l ∙ rw (u_wide u r, e)
 
--- the bytes are a u_n, whose value is the integer z
+-- the bytes are a uN, whose value is the integer z
 pub record Unsigned (N : ℕ) (s : List ℕ) (z : ℤ) : Type 0 where
   pub value : ℕ
   pub natural : z ≡ pos value
@@ -53,7 +53,7 @@ unsigned_more N b p z h k l u =
 pub wide_u : (N : ℕ) (b : List ℕ) (z : ℤ) (r : List ℕ) → wide unsigned N b ≡ got z r → Front Unsigned N b z r
 wide_u N b z r e = wide_front unsigned Unsigned unsigned_last unsigned_more N b z r e
 
--- ---- s_n
+-- ---- sN
 
 pub s_wide : {N : ℕ} {z : ℤ} {s : List ℕ} → S N s z → (r : List ℕ) → wide signed N (s ++ r) ≡ got z r
 s_wide (s_low N n h k) r =

@@ -5,7 +5,7 @@ use Rattle.std.specs.Prelude.{ℕ, zero, suc, ◌+◌, ◌-◌, ◌*◌, ◌%◌
 use Rattle.std.specs.Int.Signed.{mag, shr_z}
 use Rattle.format.specs.Parsed.{Parsed, fail, got, bind, map}
 
--- the two kinds of numbers: u_n and s_n of the standard
+-- the two kinds of numbers: uN and sN of the standard
 abbrev pub unsigned : Bool
 unsigned = false
 
@@ -62,7 +62,7 @@ abbrev pub join : ℤ → ℕ → ℤ
 join (pos m) d = pos (m * 128 + d)
 join (negsuc m) d = negsuc (m * 128 + (127 - d))
 
--- the standard's u_n and s_n at the front of some bytes (`Integers`): padding is taken
+-- the standard's uN and sN at the front of some bytes (`Integers`): padding is taken
 unfoldable pub wide : Bool → ℕ → List ℕ → Parsed ℤ
 wide s N [] = fail
 wide s N (b ∷ t) =

@@ -73,14 +73,14 @@ all_accepted : (state : State) (xs : List ℕ) (cs : List Call) → Accepted sta
 all_accepted state xs [] h = tt
 all_accepted state xs (c ∷ cs) h =
     let e = same_adding state xs c in
-    subst (λ (o : Outcome). (o.number ≡ 0) × calls.Accepted Call sec why_of item_of o.state o.store cs) (sym e) (h.0, all_accepted _ _ cs h.1)
+    subst (λ (o : Outcome). (o.number ≡ 0) × calls.Accepted Call sec why_of item_of o.state o.store cs) (sym e) (h.0, all_accepted (adding state xs c.0 c.1).state (adding state xs c.0 c.1).store cs h.1)
 
 accepted_all : (state : State) (xs : List ℕ) (cs : List Call) → calls.Accepted Call sec why_of item_of state xs cs → Accepted state xs cs
 accepted_all state xs [] h = tt
 accepted_all state xs (c ∷ cs) h =
     let e = same_adding state xs c in
     let k = subst (λ (o : Outcome). (o.number ≡ 0) × calls.Accepted Call sec why_of item_of o.state o.store cs) e h in
-    (k.0, accepted_all _ _ cs k.1)
+    (k.0, accepted_all (adding state xs c.0 c.1).state (adding state xs c.0 c.1).store cs k.1)
 
 -- ---- DEMAND 3
 

@@ -38,7 +38,7 @@ pub adds_append : (state : State) (xs : List ℕ) (cs : List Call) (fs : List Fr
 adds_append state xs [] fs e a = rw append-nil e
 adds_append state xs (c ∷ cs) fs e a =
     let f = (add_appends state xs c.0 c.1 a.0).frames fs e in
-    adds_append _ _ cs (fs ++ (call_frame c ∷ [])) f a.1 ∙ ap some (append_assoc fs (call_frame c ∷ []) (map call_frame cs))
+    adds_append (adding state xs c.0 c.1).state (adding state xs c.0 c.1).store cs (fs ++ (call_frame c ∷ [])) f a.1 ∙ ap some (append_assoc fs (call_frame c ∷ []) (map call_frame cs))
 
 -- and each of them holds an item
 frame_item : (state : State) (xs : List ℕ) (c : Call) → (adding state xs c.0 c.1).number ≡ 0 → IsItem (call_frame c).id (call_frame c).item
@@ -49,7 +49,7 @@ frame_item state xs c z =
 
 frames_items : (state : State) (xs : List ℕ) (cs : List Call) → Accepted state xs cs → Items IsItem (map call_frame cs)
 frames_items state xs [] a = tt
-frames_items state xs (c ∷ cs) a = (frame_item state xs c a.0, frames_items _ _ cs a.1)
+frames_items state xs (c ∷ cs) a = (frame_item state xs c a.0, frames_items (adding state xs c.0 c.1).state (adding state xs c.0 c.1).store cs a.1)
 
 pub finished_in : (xs : List ℕ) (cs : List Call) → Accepted fresh xs cs → (e : Ending) (out : List ℕ) → (finished xs cs e out).number ≡ 0 → e.given.count < 2 ^ 32
     → Module IsItem (take (finished xs cs e out).value (finished xs cs e out).memory) (said_by e (map call_frame cs) e.order)
