@@ -1,0 +1,12 @@
+-- `capi::told::tell_i32` meets its contract. Assumes nothing.
+use mathlib.Core.Path.{sym, ap}
+use mir.Syntax.{w32}
+use mir.Facts.{to_z-of_z}
+use Rattle.numbers.specs.Answers.{read_i32}
+use Rattle.capi.proofs.told.tell_i32.Goals as goal
+
+pub returns-in_default : goal.returns-in_default
+returns-in_default c = sym (ap read_i32 c.in_default.is)
+
+pub returns : goal.returns
+returns c = rw (to_z-of_z {w = w32} {z = c.in-Value.v} (record { sfits = c.known_told-1.given.0.1 })) (sym (ap read_i32 c.in-Value.is))
