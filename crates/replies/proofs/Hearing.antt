@@ -1,5 +1,5 @@
 -- A piece of the input, line by line: each goes to the next line feed. Assumes nothing.
-use mathlib.Core.Path.{◌≡◌, refl, sym, ap, ◌∙◌}
+use mathlib.Core.Path.{◌≡◌, refl, sym, ap, subst, ◌∙◌}
 use mathlib.Core.Bool.{Bool, true, false, cond, not}
 use mathlib.Core.List.{List, [], ◌∷◌}
 use Prim.Native.Nat.{ℕ, suc, ◌+◌, ◌-◌, ◌<◌, ◌≤◌}
@@ -35,6 +35,20 @@ pub feed_is : (xs : List ℕ) (n : ℕ) → n ≤ length xs → ((k : ℕ) → k
     → feed_at xs ≡ n
 unfolding feed_at
 feed_is xs n h before at = position_or_len_is (λ c. eqb c 0x0A) xs n 0 h before at
+
+not_true : (b : Bool) → (b ≡ true → ⊥) → b ≡ false
+not_true true h = absurd (h refl)
+not_true false h = refl
+
+-- so a search that found one, or none, found the place
+pub feed_found : {xs : List ℕ} (ys : List ℕ) {n : ℕ} → xs ≡ ys → n < length xs → ((k : ℕ) → k < n → eqb (get_or xs k 0) 0x0A ≡ true → ⊥)
+    → eqb (get_or xs n 0) 0x0A ≡ true → feed_at ys ≡ n
+feed_found {xs} ys {n} e l before at =
+    subst (λ (zs : List ℕ). feed_at zs ≡ n) e (feed_is xs n (omega arith) (λ k h. not_true (eqb (get_or xs k 0) 0x0A) (before k h)) (λ h. at))
+
+pub feed_missing : {xs : List ℕ} (ys : List ℕ) → xs ≡ ys → ((k : ℕ) → k < length xs → eqb (get_or xs k 0) 0x0A ≡ true → ⊥) → feed_at ys ≡ length ys
+feed_missing {xs} ys e none =
+    subst (λ (zs : List ℕ). feed_at zs ≡ length zs) e (feed_is xs (length xs) (omega arith) (λ k h. not_true (eqb (get_or xs k 0) 0x0A) (none k h)) (λ h. absurd (omega arith)))
 
 module _ (k : Kept) (piece : List ℕ) (i end : ℕ) (place : end ≡ i + feed_at (drop i piece)) where
   pub part_heard : hears k (take end piece) ≡ more (hears k (take i piece)) (take (end - i) (drop i piece))

@@ -1,0 +1,6 @@
+-- `capi::thriftbell_decode_index` meets its contract. Assumes nothing.
+use Rattle.capi.proofs.Telling.{told}
+use Rattle.capi.proofs.thriftbell_decode_index.Goals as goal
+
+pub returns : goal.returns
+returns c = search told

@@ -1,8 +1,0 @@
--- `capi::thriftbell_decode_index` meets its contract. Assumes nothing.
-use borrow.Author.Rules.{rules}
-use Rattle.capi.proofs.Telling.{told}
-use Rattle.capi.proofs.thriftbell_decode_index.Statement.{statement}
-use Rattle.capi.proofs.thriftbell_decode_index.Tie as tie
-
-pub thriftbell_decode_index_spec : {M : Type 1} → statement M
-thriftbell_decode_index_spec = tie.close (tie.spec (λ c κs. search rules) (λ c κs. search rules) (λ c. search told))

@@ -1,0 +1,11 @@
+-- `hexlines::hear_piece` meets its contract: what was said to each part is written before the next is heard. Assumes nothing.
+use Prim.Native.Nat.{◌-◌}
+use lib.ListN.{length}
+use Rattle.hexlines.proofs.Hearing.{Hearing}
+use Rattle.hexlines.proofs.hear_piece.Given as goal
+
+abbrev pub invariant-loop-i : goal.invariant-loop-i
+invariant-loop-i l = Hearing l.output l.initial.out l.piece l.initial.line l.initial.store l.initial.buffer l.out l.initial.i l.line l.store l.buffer l.run
+
+abbrev pub decreases-loop-i : goal.decreases-loop-i
+decreases-loop-i l = length l.output - l.run
