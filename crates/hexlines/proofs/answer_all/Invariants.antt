@@ -3,7 +3,8 @@ use Rattle.hexlines.proofs.Answering.{Answering}
 use Rattle.hexlines.proofs.answer_all.Given as goal
 
 abbrev pub invariant-loop-turns : goal.invariant-loop-turns
-invariant-loop-turns l = Answering l.initial.input l.output l.errors l.initial.piece l.initial.line l.initial.out l.initial.run l.initial.turns l.input l.piece l.line
+invariant-loop-turns g l =
+    Answering l.initial.piece l.initial.line l.initial.store l.initial.buffer l.initial.out l.piece l.line l.store l.buffer l.out l.run
 
 abbrev pub decreases-loop-turns : goal.decreases-loop-turns
-decreases-loop-turns l = l.store
+decreases-loop-turns g l = l.turns

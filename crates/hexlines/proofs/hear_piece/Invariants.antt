@@ -5,7 +5,8 @@ use Rattle.hexlines.proofs.Hearing.{Hearing}
 use Rattle.hexlines.proofs.hear_piece.Given as goal
 
 abbrev pub invariant-loop-i : goal.invariant-loop-i
-invariant-loop-i l = Hearing l.output l.initial.out l.piece l.initial.line l.initial.store l.initial.buffer l.out l.initial.i l.line l.store l.buffer l.run
+invariant-loop-i g l =
+    Hearing l.piece l.initial.run l.initial.line l.initial.store l.initial.buffer l.initial.out l.run l.line l.store l.buffer l.out l.i
 
 abbrev pub decreases-loop-i : goal.decreases-loop-i
-decreases-loop-i l = length l.output - l.run
+decreases-loop-i g l = length l.piece - l.i
