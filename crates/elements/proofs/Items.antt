@@ -18,7 +18,7 @@ use Rattle.format.specs.declared.Walk.TheVariants as walks
 use Rattle.parts.specs.Reading.{Reading, part_missing, part_follows}
 use Rattle.modes.specs.Mode.{mode_words, place}
 use Rattle.elements.specs.Members.{members}
-use Rattle.elements.specs.Item.{code, flag_of, flag_small, flag_byte, is_typed, body, bytes}
+use Rattle.elements.specs.Item.{code, flag_of, flag_small, flag_byte, is_typed, body}
 use Rattle.elements.specs.Section.{element_section, record_prints}
 use Rattle.modes.specs.declared.Mode.{Mode}
 use Rattle.modes.specs.declared.Mode.TheVariants.{Declared}

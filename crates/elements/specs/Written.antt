@@ -20,7 +20,7 @@ use Rattle.modes.specs.Mode.{PlaceOf, place}
 use Rattle.elements.specs.Members.{funcref}
 use Rattle.elements.specs.Segment.{ElementsOf, Elements}
 use Rattle.elements.specs.Item.{flag_of, body, bytes}
-use Rattle.elements.specs.Exception.{is_funcref, active_item, item_of}
+use Rattle.elements.specs.Exception.{is_funcref, active_item}
 use Rattle.elements.specs.Section.{element_section, resolved}
 use Rattle.modes.specs.declared.Mode.{Mode}
 use Rattle.modes.specs.declared.Mode.TheVariants.{Active, Passive, ActiveTable, Declared}

@@ -7,7 +7,7 @@ use native.Mathlib.Numerals.{add-one}
 use native.Mathlib.Omega.{arith}
 use lib.Dec.{eqb}
 use lib.ListN.{length, take, drop, get_or, length-drop}
-use lib.Seq.{take-length, take-add, take-suc, get_or-drop}
+use lib.Seq.{take-add, take-suc, get_or-drop}
 use borrow.Author.Tests.{eqb-true}
 use Rattle.std.proofs.lemmas.List.Sums.{passes_at_first, position_or_len_is}
 use Rattle.replies.specs.Input.{Kept, ended, more, heard, hears, feed_at, hears_more, heard_end, heard_other, more_none, more_more}

@@ -1,5 +1,4 @@
 -- What the check leaves of `hexlines::hear_piece`.
-use Prim.Native.Nat.{◌-◌}
 use Rattle.replies.specs.Keeping.{line_kept, store_kept, buffer_kept, out_kept}
 use Rattle.hexlines.proofs.Hearing.{hearing_starts, all_heard, next_fits, fewer_left, waiting_within, not_written, hearing_goes_on}
 use Rattle.hexlines.proofs.hear_piece.Goals as goal

@@ -1,6 +1,4 @@
 -- What the check leaves of `replies::input::take_piece`.
-use Prim.Native.Nat.{◌-◌}
-use native.Mathlib.Omega.{arith}
 use Rattle.replies.proofs.Taking.{none_taken, all_taken, next_fits, fewer_left, part_ready, part_taken, part_waits, line_room, line_taken}
 use Rattle.replies.proofs.input.take_piece.Goals as goal
 
