@@ -1,6 +1,6 @@
 /* Thriftbell for C: the proved encoder's entries, each with the contract that crates/capi/src/lib.rt states.
  *
- * Link with target/staticlib/libcapi.a, which `rt staticlib capi` proves and writes, for x86-64:
+ * Link with target/staticlib/libcapi.a, which rust/library proves and writes, for x86-64:
  *     cc -o example c/example.c target/staticlib/libcapi.a
  *
  * A slice passes as a pointer and then its length, in elements; where the length is 0 the pointer may be null. Every other pointer points to one number. Pointers

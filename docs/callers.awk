@@ -21,7 +21,7 @@ NR == FNR {
     next
 }
 
-/^\| `[a-z0-9]+::/ {
+/^\| `[a-z0-9_]+::/ {
     split($0, cell, "|")
     n = names(cell[2], own)
     m = names(cell[4], by)

@@ -1,5 +1,6 @@
-# Holds a document's names against what is here. Reads specs and src for the names that each file defines, then the document, whose names it takes from its
-# backquotes: names before a file are in that file, as `a`, `b` in crate/specs/File.antt; CRATE/EDIT is an edit; a name with a hyphen is a theorem of some file.
+# Holds a document's names against what is here. Reads specs, the theorems of proofs and src, and rust/src, for the names that each file defines, then the document, whose names it
+# takes from its backquotes: names before a file are in that file, as `a`, `b` in crate/specs/File.antt; CRATE/EDIT is an edit; a name of several words, joined by _ or
+# by hyphens, is that of a theorem, a definition or a function of some file.
 # `edits` and `files` say what is in the repository, a line each.
 
 function wrong(what) {
@@ -21,7 +22,7 @@ FNR == 1 {
 }
 
 # `name : ..`, `record name`, `data name`, `fn name`
-FILENAME ~ /\.antt$/ || FILENAME ~ /\.rt$/ {
+FILENAME ~ /\.(antt|rt|rs)$/ {
     t = $0
     sub(/^ +/, "", t)
     sub(/^(abbrev |unfoldable )?(pub )?(extern "C" )?/, "", t)
@@ -68,7 +69,7 @@ function take_name(n) {
     }
     if (n !~ /^[A-Za-z][A-Za-z0-9_-]*$/)
         return
-    if (n ~ /^[a-z0-9]+(-[A-Za-z0-9]+)+$/ && !(n in somewhere))
+    if (n ~ /^[a-z0-9]+([_-][A-Za-z0-9]+)+$/ && !(n in somewhere))
         wrong("no file has " n)
     if (served)
         waiting = 0

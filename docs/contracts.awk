@@ -38,34 +38,39 @@ function has(t, name) {
     return (" " t " ") ~ ("[^A-Za-z0-9_.'-]" name "[^A-Za-z0-9_'-]")
 }
 
-# r on one side alone, and nothing that was left on the other
-function splits(t, r,    n, piece, i, left, right) {
+# what a lent value is at the return, all of it and not a part
+function has_left(t, name) {
+    return (" " t " ") ~ ("[^A-Za-z0-9_.'-]" name "[.]new[^A-Za-z0-9_.'-]")
+}
+
+# the result on one side alone, and nothing that was left on the other
+function splits(t,    n, piece, i, left, right) {
     n = split(t, piece, " ≡ ")
     left = piece[1]
     for (i = 2; i <= n && outside(left) ~ /[()]/; i++)
         left = left " ≡ " piece[i]
     for (; i <= n; i++)
         right = right " " piece[i]
-    if (has(left, r))
-        return !has(right, r) && right !~ /\.exit/
-    return has(right, r) && left !~ /\.exit/
+    if (has(left, "result"))
+        return !has(right, "result") && right !~ /[.]new/
+    return has(right, "result") && left !~ /[.]new/
 }
 
-function is_whole(t, r,    i, first) {
+function is_whole(t,    i, first) {
     t = bare(t)
     for (i = 1; i <= lent; i++)
-        if (index(t, "(" mutable[i] " .exit)") == 0)
+        if (!has_left(t, mutable[i]))
             return 0
     first = t
     sub(/ .*/, "", first)
     if (first in equation)
-        return has(t, r)
+        return has(t, "result")
     if (is_equation(t))
-        return splits(t, r)
-    return index(t, "(" r " ≡ true) ↔ ") == 1
+        return splits(t)
+    return index(t, "(result ≡ true) ↔ ") == 1
 }
 
-# ---- records of specs
+# ---- records of specs: a field stands two deep, and what is deeper goes on with it
 
 function end_record() {
     if (record != "" && fields == 1 && (is_equation(bare(field)) || field ~ /^\([a-z]+ ≡ true\) ↔ /))
@@ -81,53 +86,87 @@ FNR == 1 {
 }
 
 FILENAME ~ /\.antt$/ {
-    if ($0 ~ /^ *pub record /) {
+    if ($0 ~ /^pub record /) {
         end_record()
         record = $3
         fields = 0
-    } else if (record != "" && $0 ~ /^ +pub [^ ]+ : /) {
+    } else if (record != "" && $0 ~ /^  [^ ].* : /) {
+        if ($0 ~ /^  --/)
+            next
         fields++
         field = $0
-        sub(/^ +pub [^ ]+ : /, "", field)
-    } else if (record != "" && $0 ~ /^ *→/)
+        sub(/^  (pub )?[^ ]+ : /, "", field)
+    } else if (record != "" && $0 ~ /^   /) {
+        sub(/^ +/, " ")
         field = field $0
-    else
+    } else if ($0 !~ /^  --/)
         end_record()
     next
 }
 
 # ---- functions of src
 
-function begin_function(    t) {
-    open_to = ($0 ~ /^ *pub /) ? "pub" : "-"
+function begin_function() {
+    open_to = ($0 ~ /^ *pub[ (]/) ? "pub" : "-"
     name = $0
     sub(/^.*fn /, "", name)
-    sub(/\(.*/, "", name)
+    sub(/[(<].*/, "", name)
     name = path[2] "::" type name
-    contract = ""
+    head = ""
     calls = " "
     inside = 0
 }
 
-function begin_body(    t, n, i, part) {
-    inside = 1
-    t = contract
-    sub(/(requires|ensures) .*/, "", t)
-    lent = 0
-    while (match(t, /[a-z_]+: &mut /)) {
-        mutable[++lent] = substr(t, RSTART, RLENGTH - 7)
-        t = substr(t, RSTART + RLENGTH)
+# the clauses of a head that is read as far as its body's brace; 0 where that is still to come
+function takes_head(    rest, at, before, i, depth, c, kind) {
+    asks = "-"
+    promises = 0
+    rest = head
+    signature = ""
+    while ((at = index(rest, "{")) > 0) {
+        before = substr(rest, 1, at - 1)
+        rest = substr(rest, at + 1)
+        if (signature == "")
+            signature = before
+        if (!match(before, / (requires|ensures|ghost)[*]?( [a-z0-9_]+)? $/)) {
+            head = rest
+            return 1
+        }
+        kind = substr(before, RSTART + 1)
+        sub(/ .*/, "", kind)
+        depth = 1
+        for (i = 1; depth > 0; i++) {
+            if (i > length(rest))
+                return 0
+            c = substr(rest, i, 1)
+            depth += (c == "{") - (c == "}")
+        }
+        if (kind ~ /^requires/)
+            asks = "requires"
+        if (kind == "ensures")
+            promise[++promises] = substr(rest, 1, i - 2)
+        rest = substr(rest, i)
     }
-    asks = (contract ~ / requires \{/) ? "requires" : "-"
+    return 0
+}
+
+function begin_body(    i) {
+    inside = 1
+    lent = 0
+    while (match(signature, /[a-z0-9_]+: &mut /)) {
+        mutable[++lent] = substr(signature, RSTART, RLENGTH - 7)
+        signature = substr(signature, RSTART + RLENGTH)
+    }
     whole = "open"
-    n = split(contract, part, / ensures \{ λ /)
-    for (i = 2; i <= n; i++) {
-        sub(/ ⌝ \}.*/, "", part[i])
-        r = part[i]
-        sub(/\..*/, "", r)
-        sub(/^[a-z]+\. ⌜ /, "", part[i])
-        if (is_whole(part[i], r))
+    for (i = 1; i <= promises; i++)
+        if (is_whole(promise[i]))
             whole = "whole"
+}
+
+function take_calls(body) {
+    while (match(body, /[A-Za-z_0-9]+\(/)) {
+        calls = calls substr(body, RSTART, RLENGTH - 1) " "
+        body = substr(body, RSTART + RLENGTH)
     }
 }
 
@@ -137,20 +176,25 @@ function end_function() {
     name = ""
 }
 
-/^impl / { type = $2 "::" }
-/^ *(pub )?(extern "C" )?fn / { end_function(); begin_function() }
+/^impl/ {
+    type = $0
+    sub(/ *\{.*/, "", type)
+    sub(/^impl(<[^ ]*>)? /, "", type)
+    sub(/^.* for /, "", type)
+    sub(/<.*/, "", type)
+    type = type "::"
+}
+/^ *(pub(\([a-z]+\))? )?((const|unsafe|extern "C") )*fn / { end_function(); begin_function() }
 name != "" && !inside {
-    contract = contract " " $0
-    if ($0 ~ /\{$/)
+    line = $0
+    sub(/ *\/\/ .*/, "", line)
+    head = head " " line
+    if (takes_head()) {
         begin_body()
+        take_calls(head)
+    }
     next
 }
-name != "" {
-    body = $0
-    while (match(body, /[A-Za-z_0-9]+\(/)) {
-        calls = calls substr(body, RSTART, RLENGTH - 1) " "
-        body = substr(body, RSTART + RLENGTH)
-    }
-}
+name != "" { take_calls($0) }
 /^}/ || (/^    }/ && type != "") { end_function() }
 /^}/ { type = "" }

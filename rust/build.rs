@@ -1,4 +1,4 @@
-// Links the static library that `rt staticlib capi` writes. THRIFTBELL is the repository, the folder above this one unless it is set.
+// Links the static library that rust/library writes. THRIFTBELL is the repository, the folder above this one unless it is set.
 use std::path::PathBuf;
 
 fn main() {
@@ -6,7 +6,7 @@ fn main() {
     let root = std::env::var("THRIFTBELL").map_or_else(|_| above(), PathBuf::from);
     let folder = root.join("target/staticlib");
     if !folder.join("libcapi.a").exists() {
-        panic!("{} has no libcapi.a: run `rt staticlib capi` in the repository first", folder.display());
+        panic!("{} has no libcapi.a: run rust/library in the repository first", folder.display());
     }
     println!("cargo:rustc-link-search=native={}", folder.display());
     println!("cargo:rustc-link-lib=static=capi");

@@ -53,18 +53,18 @@ fn in_rust(t: &Texts) -> Numbers {
 
 // A name, and the file and the line that define it.
 const DEFINED: [(&str, &str, &str); 12] = [
-    ("MAX_STORE", "crates/frames/specs/Builder.antt", "storeMost"),
-    ("MAX_WORDS", "crates/texts/specs/Judge.antt", "wordsMost"),
-    ("MAX_TEXT", "crates/texts/specs/Judge.antt", "textMost"),
-    ("MAX_ITEM", "crates/texts/specs/Judge.antt", "itemMost"),
-    ("MAX_ORDER", "crates/sections/specs/Order.antt", "orderMost"),
-    ("MAX_LINE", "crates/hex/specs/Line.antt", "digitsMost"),
-    ("SECTION_TYPE", "crates/frames/specs/Ids.antt", "idOf Types"),
-    ("SECTION_IMPORT", "crates/frames/specs/Ids.antt", "idOf Imports"),
-    ("SECTION_TABLE", "crates/frames/specs/Ids.antt", "idOf Tables"),
-    ("SECTION_ELEMENT", "crates/frames/specs/Ids.antt", "idOf Elements"),
-    ("SECTION_DATA", "crates/frames/specs/Ids.antt", "idOf Data"),
-    ("SECTION_DATA_COUNT", "crates/sections/specs/Section.antt", "dataCount"),
+    ("MAX_STORE", "crates/frames/specs/Builder.antt", "store_most"),
+    ("MAX_WORDS", "crates/texts/specs/Judge.antt", "words_most"),
+    ("MAX_TEXT", "crates/texts/specs/Judge.antt", "text_most"),
+    ("MAX_ITEM", "crates/texts/specs/Judge.antt", "item_most"),
+    ("MAX_ORDER", "crates/sections/specs/Order.antt", "order_most"),
+    ("MAX_LINE", "crates/hex_text/specs/Line.antt", "digits_most"),
+    ("SECTION_TYPE", "crates/frames/specs/Ids.antt", "id_of Types"),
+    ("SECTION_IMPORT", "crates/frames/specs/Ids.antt", "id_of Imports"),
+    ("SECTION_TABLE", "crates/frames/specs/Ids.antt", "id_of Tables"),
+    ("SECTION_ELEMENT", "crates/frames/specs/Ids.antt", "id_of Elements"),
+    ("SECTION_DATA", "crates/frames/specs/Ids.antt", "id_of Data"),
+    ("SECTION_DATA_COUNT", "crates/sections/specs/Section.antt", "data_count"),
 ];
 
 fn defined(path: &str, name: &str) -> u64 {

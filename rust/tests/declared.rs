@@ -48,7 +48,7 @@ fn rattle_parameter(p: &str) -> String {
 
 fn rattle_entries(mut text: &str) -> Vec<String> {
     let mut all = vec![];
-    while let Some((head, rest)) = between(text, "#[no_mangle]\npub extern \"C\" fn ", "\n    ensures") {
+    while let Some((head, rest)) = between(text, "#[unsafe(no_mangle)]\npub extern \"C\" fn ", "\n    ensures") {
         let (name, signature) = head.split_once('(').unwrap();
         let (parameters, result) = signature.rsplit_once(") -> ").unwrap();
         all.push(entry(name, parts(parameters).map(rattle_parameter).collect(), result));
