@@ -10,7 +10,8 @@ use Rattle.frames.specs.Builder.{fresh, frames_in}
 use Rattle.frames.specs.declared.State.{State}
 use Rattle.sections.specs.Section.{Ending}
 use Rattle.sections.specs.Grammar.{Items}
-use Rattle.module.specs.Grammar.{Module, said_by, finish_in}
+use Rattle.module.specs.Grammar.{Module, said_by}
+use Rattle.module.proofs.InGrammar.{finish_in}
 use Rattle.texts.specs.Judge.{record_in, item_in, why, fine}
 use Rattle.texts.specs.declared.Span.{Span}
 use Rattle.items.specs.Record.{Record, records}

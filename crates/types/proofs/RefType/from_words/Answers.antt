@@ -23,23 +23,25 @@ returns-then-x-ne0 c = let small : c.args.h < 64 = omega (arith, c.if-h-ne0.fals
 pub returns-in_default : goal.returns-in_default
 returns-in_default c = let small : c.args.h < 64 = omega (arith, c.if-h-ne0.false) in
     let a = c.args in
+    let unused : a.x ≡ 0 = omega arith in
     rw (
       ref_words_bits a.h a.x small,
       ne_eqb (bit_and a.h 15) 14 (λ e. omega (arith, c.if-kind-lt14.true)),
       ne_eqb (bit_and a.h 15) 15 (λ e. omega (arith, c.if-kind-lt14.true)),
-      eq-eqb a.x 0 c.if-x-ne0.false,
+      eq-eqb a.x 0 unused,
       kind_none (find kind_of abstracts (bit_and a.h 15)) (sym c.from_kind.ensures ∙ c.in_default.is),
     )
 
 pub returns-then-kind-lt14 : goal.returns-then-kind-lt14
 returns-then-kind-lt14 c = let small : c.args.h < 64 = omega (arith, c.if-h-ne0.false) in
     let a = c.args in
+    let unused : a.x ≡ 0 = omega arith in
     rw (
       c.new_abstract.ensures,
       ref_words_bits a.h a.x small,
       ne_eqb (bit_and a.h 15) 14 (λ e. omega (arith, c.if-kind-lt14.true)),
       ne_eqb (bit_and a.h 15) 15 (λ e. omega (arith, c.if-kind-lt14.true)),
-      eq-eqb a.x 0 c.if-x-ne0.false,
+      eq-eqb a.x 0 unused,
       kind_some (find kind_of abstracts (bit_and a.h 15)) _ (sym c.from_kind.ensures ∙ c.in-Kind.is),
     )
 
@@ -51,10 +53,12 @@ returns-then-shared c = let small : c.args.h < 64 = omega (arith, c.if-h-ne0.fal
 pub returns-then-kind-eq14 : goal.returns-then-kind-eq14
 returns-then-kind-eq14 c = let small : c.args.h < 64 = omega (arith, c.if-h-ne0.false) in
     let a = c.args in
-    rw (ref_words_bits a.h a.x small, ne_eqb (bit_and (a.h / 32) 1) 1 c.if-shared.false, c.if-kind-eq14.true)
+    let plain : bit_and (a.h / 32) 1 ≡ 1 → ⊥ = λ e. omega (arith, e) in
+    rw (ref_words_bits a.h a.x small, ne_eqb (bit_and (a.h / 32) 1) 1 plain, c.if-kind-eq14.true)
 
 pub returns-else-kind-eq14 : goal.returns-else-kind-eq14
 returns-else-kind-eq14 c = let small : c.args.h < 64 = omega (arith, c.if-h-ne0.false) in
     let a = c.args in
+    let plain : bit_and (a.h / 32) 1 ≡ 1 → ⊥ = λ e. omega (arith, e) in
     let k : bit_and a.h 15 ≡ 15 = omega (arith, and_mask a.h 4, c.if-kind-lt14.false, c.if-kind-eq14.false) in
-    rw (ref_words_bits a.h a.x small, ne_eqb (bit_and (a.h / 32) 1) 1 c.if-shared.false, k)
+    rw (ref_words_bits a.h a.x small, ne_eqb (bit_and (a.h / 32) 1) 1 plain, k)
