@@ -1,4 +1,4 @@
-/* A module of one passive data segment, the byte 41: prints document 01's whole case. Answers with the number of a refusal. */
+/* A module of one passive data segment, the byte 41: prints document 01's whole case. Answers 1 if an entry refuses. */
 #include "thriftbell.h"
 #include <stdio.h>
 
@@ -11,9 +11,9 @@ int main(void) {
     uint8_t store[ROOM], module[ROOM];
     size_t used = 0, length;
     uint32_t answer = thriftbell_add(&used, store, sizeof store, words, sizeof words / sizeof *words, text, sizeof text);
-    if (answer != THRIFTBELL_OK) return (int)answer;
+    if (answer != THRIFTBELL_OK) return 1;
     answer = thriftbell_finish(used, store, sizeof store, order, sizeof order, SEGMENTS, module, sizeof module, &length);
-    if (answer != THRIFTBELL_OK) return (int)answer;
+    if (answer != THRIFTBELL_OK) return 1;
     for (size_t i = 0; i < length; i++) printf("%02X", module[i]);
     printf("\n");
     return 0;

@@ -22,12 +22,12 @@
 //!
 //! let mut store = Store::new(64);
 //! store.add(&[11, 0, 0, 0, 0, 0, 1], b"A")?;
-//! assert_eq!(store.add(&[11], b""), Err(Refusal::NoRecord));
 //! let mut out = [0; 64];
 //! let length = store.finish(&[12, 11], 1, &mut out)?;
 //! assert_eq!(out[..length], *b"\0asm\x01\0\0\0\x0C\x01\x01\x0B\x04\x01\x01\x01A");
 //! assert_eq!(encode_i32(9999, &mut out), Ok(3));
 //! assert_eq!(out[..3], [0x8F, 0xCE, 0x00]);
+//! assert_eq!(store.add(&[11], b"").unwrap_err().number, 2);
 //! # Ok::<(), Refusal>(())
 //! ```
 //!
@@ -127,10 +127,10 @@ pub fn add(used: &mut usize, store: &mut [u8], words: &[u32], text: &[u8]) -> Re
 }
 
 /// Writes the module of a store's frames to the front of `out` and answers its length. Refusals: 1, 8, 9, 10.
-pub fn finish(used: usize, store: &[u8], order: &[u8], data_count: u32, out: &mut [u8]) -> Result<usize, Refusal> {
+pub fn finish(used: usize, store: &[u8], order: &[u8], count: u32, out: &mut [u8]) -> Result<usize, Refusal> {
     let mut length = 0;
     let number = unsafe {
-        raw::thriftbell_finish(used, store.as_ptr(), store.len(), order.as_ptr(), order.len(), data_count, out.as_mut_ptr(), out.len(), &mut length)
+        raw::thriftbell_finish(used, store.as_ptr(), store.len(), order.as_ptr(), order.len(), count, out.as_mut_ptr(), out.len(), &mut length)
     };
     told(number, length)
 }

@@ -1,17 +1,19 @@
 // Refusals, by the numbers and words of document 01's table.
 use core::fmt;
 
+/// Why an entry refused: a number of the table. Nothing was changed then.
+#[derive(Debug, Clone, Copy, PartialEq, Eq, Hash)]
+pub struct Refusal {
+    pub number: u32,
+}
+
 macro_rules! refusals {
     ($($name:ident = $number:literal, $words:literal;)*) => {
-        /// Why an entry refused: a number of the table. Nothing was changed then.
-        #[derive(Debug, Clone, Copy, PartialEq, Eq, Hash)]
-        #[non_exhaustive]
-        #[repr(u32)]
-        pub enum Refusal {
-            $(#[doc = $words] $name = $number,)*
-        }
-
+        /// The refusals of the table, by name.
+        #[allow(non_upper_case_globals)]
         impl Refusal {
+            $(#[doc = $words] pub const $name: Refusal = Refusal { number: $number };)*
+
             /// The refusal of a number, as it stands in a hex line's answer; none for 0 and past the table.
             pub fn from_number(number: u32) -> Option<Refusal> {
                 match number {
@@ -23,8 +25,9 @@ macro_rules! refusals {
 
         impl fmt::Display for Refusal {
             fn fmt(&self, f: &mut fmt::Formatter) -> fmt::Result {
-                f.write_str(match self {
-                    $(Refusal::$name => $words,)*
+                f.write_str(match self.number {
+                    $($number => $words,)*
+                    _ => return write!(f, "answer {}", self.number),
                 })
             }
         }
@@ -49,7 +52,7 @@ refusals! {
 impl Refusal {
     /// Its number in the table.
     pub fn number(self) -> u32 {
-        self as u32
+        self.number
     }
 }
 
@@ -57,18 +60,22 @@ impl core::error::Error for Refusal {}
 
 /// What stands beside the answer 0, or the refusal.
 pub(crate) fn told<T>(number: u32, value: T) -> Result<T, Refusal> {
-    if number == 0 {
-        return Ok(value);
-    }
-    // the contracts give no other number, so this is another library
-    Err(Refusal::from_number(number).unwrap_or_else(|| panic!("the library linked answers {number}, which is past the table")))
+    if number == 0 { Ok(value) } else { Err(Refusal { number }) }
 }
 
 #[cfg(test)]
 mod tests {
     use super::*;
-    use alloc::string::ToString;
+    use alloc::string::{String, ToString};
     use alloc::vec::Vec;
+
+    #[test]
+    fn words_of_the_table() {
+        let all: Vec<String> = (1..=12).map(|number| Refusal { number }.to_string()).collect();
+        assert!(all.iter().all(|words| !words.starts_with("answer")));
+        assert!((0..12).all(|i| !all[..i].contains(&all[i])));
+        assert_eq!(told(10, 0).unwrap_err().to_string(), "output shorter than the result");
+    }
 
     #[test]
     fn numbers_and_words_of_the_table() {

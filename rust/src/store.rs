@@ -34,14 +34,14 @@ impl Store {
     }
 
     /// Writes the module to the front of `out` and answers its length. Refusals: 8, 10, and 1 of a store over its limit.
-    pub fn finish(&self, order: &[u8], data_count: u32, out: &mut [u8]) -> Result<usize, Refusal> {
-        finish(self.used, &self.bytes, order, data_count, out)
+    pub fn finish(&self, order: &[u8], count: u32, out: &mut [u8]) -> Result<usize, Refusal> {
+        finish(self.used, &self.bytes, order, count, out)
     }
 
     /// The module, in memory that is always long enough. Refusals: 8, and 1 of a store over its limit.
-    pub fn finish_to_vec(&self, order: &[u8], data_count: u32) -> Result<Vec<u8>, Refusal> {
+    pub fn finish_to_vec(&self, order: &[u8], count: u32) -> Result<Vec<u8>, Refusal> {
         let mut out = vec![0; self.room_for(order)];
-        let length = self.finish(order, data_count, &mut out)?;
+        let length = self.finish(order, count, &mut out)?;
         out.truncate(length);
         Ok(out)
     }

@@ -71,7 +71,7 @@ fn sizes_and_indices() {
                 let right = oracle::entries::answer(&format!("number i64 {bytes}"));
                 let value = right.split(' ').nth(1).and_then(|v| v.parse::<u32>().ok());
                 let found = decode_index(&calls::unhex(bytes), 0);
-                assert_eq!(found.map(|(v, end)| format!("00 {v} {end}")).map_err(Refusal::number), value.map(|_| right).ok_or(11), "{line}");
+                assert_eq!(found.map(|(v, end)| format!("00 {v} {end}")).map_err(|r| r.number), value.map(|_| right).ok_or(11), "{line}");
                 count += 1;
             }
         }

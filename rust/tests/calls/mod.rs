@@ -14,7 +14,7 @@ fn shown(bytes: &[u8]) -> String {
 fn told<T>(answer: Result<T, Refusal>, rest: impl FnOnce(T) -> String) -> String {
     match answer {
         Ok(value) => format!("00{}", rest(value)),
-        Err(refusal) => format!("{:02X}", refusal.number()),
+        Err(refusal) => format!("{:02X}", refusal.number),
     }
 }
 
