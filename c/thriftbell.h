@@ -1,4 +1,4 @@
-/* Thriftbell for C: the proved encoder's entries, each with the contract that crates/capi/src/lib.rt states.
+/* Thriftbell for C: the proved encoder's entries, each with the contract that crates/capi_c/src/lib.rt states.
  *
  * Link with target/staticlib/libcapi.a, which rust/library proves and writes, for x86-64:
  *     cc -o example c/example.c target/staticlib/libcapi.a

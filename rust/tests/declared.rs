@@ -1,4 +1,4 @@
-// Nothing checks declarations of another language's functions, so this does: the entries of crates/capi/src/lib.rt, the prototypes of c/thriftbell.h and the
+// Nothing checks declarations of another language's functions, so this does: the entries of crates/capi_c/src/lib.rt, the prototypes of c/thriftbell.h and the
 // extern block of src/raw.rs are brought to one form and compared, entry by entry: order, names, types, constness and result.
 mod texts;
 
@@ -11,7 +11,7 @@ struct Texts {
 }
 
 fn all() -> Texts {
-    Texts { rattle: file("crates/capi/src/lib.rt"), c: file("c/thriftbell.h"), rust: file("rust/src/raw.rs") }
+    Texts { rattle: file("crates/capi_c/src/lib.rt"), c: file("c/thriftbell.h"), rust: file("rust/src/raw.rs") }
 }
 
 fn words(text: &str) -> String {
