@@ -164,6 +164,7 @@ function begin_body(    i) {
 }
 
 function take_calls(body) {
+    gsub(/::<[^()]*>\(/, "(", body)
     while (match(body, /[A-Za-z_0-9]+\(/)) {
         calls = calls substr(body, RSTART, RLENGTH - 1) " "
         body = substr(body, RSTART + RLENGTH)

@@ -6,15 +6,14 @@ use mir.Syntax.{Width}
 use mir.Val.{SFits, to_z, of_z}
 use mir.Facts.{to_z-of_z}
 use lib.IntN.{ℤ}
-use Rattle.format.specs.Write.{Writes, writing, outcome}
-use Rattle.format.specs.declared.Written.{Written}
+use Rattle.format.specs.Write.{Written, Writes, writing, outcome}
 use Rattle.frames.specs.Append as append
-use Rattle.module.specs.Finish as finish
-use Rattle.module.specs.declared.Finished.{Finished}
 use Rattle.thriftbell.specs.Add as add
 use Rattle.thriftbell.specs.Read as read
-use Rattle.thriftbell.specs.declared.Added.{Added}
-use Rattle.thriftbell.specs.declared.Taken.{Taken}
+use Rattle.std.specs.Prelude.{Result}
+use Rattle.format.specs.declared.refusal.Refusal.{Refusal}
+use Rattle.frames.specs.declared.State.{State}
+use Rattle.thriftbell.specs.declared.Took.{Took}
 use Rattle.lines.specs.Answer as line
 use Rattle.lines.specs.declared.Reply.{Reply}
 use Rattle.format.specs.Write as write
@@ -35,13 +34,14 @@ pub signed_told : (f : ℤ → List ℕ) {r l : ℕ} (w : Written) → ((out : L
 signed_told f w t v {xs} {ys} s p = written_told w t (rw (to_z-of_z s) at p)
 
 -- adding, finishing, reading an item, and a line
-pub added_told : {r u : ℕ} {a : Added} {ys : List ℕ} {o : append.Outcome} → ((store : List ℕ) → added r u store ≡ add.outcome a store) → add.outcome a ys ≡ o → added r u ys ≡ o
-added_told {ys = ys} t p = t ys ∙ p
+pub added_told : {r u : ℕ} (state : State) (a : Result State Refusal) {ys : List ℕ} {o : append.Outcome} → ((store : List ℕ) → added r u store ≡ add.outcome state a store)
+    → add.outcome state a ys ≡ o → added r u ys ≡ o
+added_told state a {ys = ys} t p = t ys ∙ p
 
-pub finished_told : {r l : ℕ} (f : Finished) {ys : List ℕ} {o : write.Outcome} → ((out : List ℕ) → written r l out ≡ finish.outcome f out) → finish.outcome f ys ≡ o → written r l ys ≡ o
+pub finished_told : {r l : ℕ} (f : Written) {ys : List ℕ} {o : write.Outcome} → ((out : List ℕ) → written r l out ≡ outcome f out) → outcome f ys ≡ o → written r l ys ≡ o
 finished_told f {ys} t p = t ys ∙ p
 
-pub taken_told : {r m n : ℕ} (a : Taken) {ys : List ℕ} {o : read.Outcome} → ((out : List ℕ) → took r m n out ≡ read.outcome a out) → read.outcome a ys ≡ o → took r m n ys ≡ o
+pub taken_told : {r m n : ℕ} (a : Result Took Refusal) {ys : List ℕ} {o : read.Outcome} → ((out : List ℕ) → took r m n out ≡ read.outcome a out) → read.outcome a ys ≡ o → took r m n ys ≡ o
 taken_told a {ys} t p = t ys ∙ p
 
 pub reply_told : {r u l : ℕ} (a : Reply) {s b ys : List ℕ} {o : line.Outcome} → ((store buffer out : List ℕ) → answered r u l store buffer out ≡ numbered (line.outcome a store buffer out))

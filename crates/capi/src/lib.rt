@@ -20,10 +20,7 @@ ghost use Rattle.lines.specs.Answer.{answering};
 ghost use Rattle.capi.specs.Outcomes.{stated, written, valued, added, took, answered, numbered};
 
 use thriftbell::{Given, State};
-use told::{
-    tell_added, tell_finished, tell_i32, tell_i64, tell_reply, tell_taken, tell_u32, tell_u64,
-    tell_written,
-};
+use told::{tell, tell_added, tell_read, tell_reply, tell_taken, tell_written};
 
 // Writing a number at the front of `out`: 0 and its length, or 10.
 pub fn thriftbell_encode_u32(v: u32, out: &mut [u8], length: &mut usize) -> u32
@@ -61,31 +58,31 @@ pub fn thriftbell_encode_index(v: u32, out: &mut [u8], length: &mut usize) -> u3
 pub fn thriftbell_decode_u32(s: &[u8], at: usize, value: &mut u32, end: &mut usize) -> u32
     ensures { valued result value.new end.new ≡ reading 0 s.now (u32s.parse (drop at s.now)) }
 {
-    tell_u32(numbers::decode_u32(s, at), value, end)
+    tell_read(numbers::decode_u32(s, at), 0, value, end)
 }
 
 pub fn thriftbell_decode_u64(s: &[u8], at: usize, value: &mut u64, end: &mut usize) -> u32
     ensures { valued result value.new end.new ≡ reading 0 s.now (u64s.parse (drop at s.now)) }
 {
-    tell_u64(numbers::decode_u64(s, at), value, end)
+    tell_read(numbers::decode_u64(s, at), 0, value, end)
 }
 
 pub fn thriftbell_decode_i32(s: &[u8], at: usize, value: &mut i32, end: &mut usize) -> u32
     ensures { valued result value.new end.new ≡ reading (pos 0) s.now (s32.parse (drop at s.now)) }
 {
-    tell_i32(numbers::decode_i32(s, at), value, end)
+    tell_read(numbers::decode_i32(s, at), 0, value, end)
 }
 
 pub fn thriftbell_decode_i64(s: &[u8], at: usize, value: &mut i64, end: &mut usize) -> u32
     ensures { valued result value.new end.new ≡ reading (pos 0) s.now (s64.parse (drop at s.now)) }
 {
-    tell_i64(numbers::decode_i64(s, at), value, end)
+    tell_read(numbers::decode_i64(s, at), 0, value, end)
 }
 
 pub fn thriftbell_decode_index(s: &[u8], at: usize, value: &mut u32, end: &mut usize) -> u32
     ensures { valued result value.new end.new ≡ reading 0 s.now (index.parse (drop at s.now)) }
 {
-    tell_u32(numbers::decode_index(s, at), value, end)
+    tell_read(numbers::decode_index(s, at), 0, value, end)
 }
 
 // How many bytes `thriftbell_encode_u32` writes.
@@ -105,7 +102,7 @@ pub fn thriftbell_is_name(s: &[u8]) -> bool
 pub fn thriftbell_check_expr(s: &[u8]) -> u32
     ensures { result ≡ answer s.now }
 {
-    exprs::check_expr(s)
+    tell(exprs::check_expr(s))
 }
 
 // An expression made from a number: 0 and its length, or 10.
@@ -142,9 +139,8 @@ pub fn thriftbell_finish(
 ) -> u32
     ensures { written result length.new out.new ≡ finishing (stated used) store.now (ending order.now (record { count = count })) out.old }
 {
-    let given = Given { count: count };
-    tell_finished(
-        thriftbell::finish(State { used: used }, store, order, given, out),
+    tell_written(
+        thriftbell::finish(State { used }, store, order, Given { count }, out),
         length,
     )
 }

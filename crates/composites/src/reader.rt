@@ -5,18 +5,15 @@ ghost use Rattle.leb128.proofs.Formats.{u32, index};
 ghost use Rattle.words.specs.Words.{word};
 ghost use Rattle.composites.specs.Composite.{func, body_words, body_bytes, inner_words, inner_bytes};
 
-use format::{Done, Walk, append_word};
+use format::{Done, Walk, append};
 use lists::{Member, read_list};
-use numbers::ReadU32;
 use vals::read_field;
 
 // Parameters and results.
 fn read_func(b: &[u8], at: usize, out: &mut [u32], s: Done) -> Walk
     ensures { Walks (body_bytes func) (body_words func).print silent b.now at out.old s out.new result }
 {
-    let Walk::Got(p, t) = read_list(Member::Val, b, at, out, s) else {
-        return Walk::No;
-    };
+    let (p, t) = read_list(Member::Val, b, at, out, s)?;
     read_list(Member::Val, b, p, out, t)
 }
 
@@ -24,34 +21,32 @@ fn read_func(b: &[u8], at: usize, out: &mut [u32], s: Done) -> Walk
 fn read_cont(b: &[u8], at: usize, out: &mut [u32], s: Done) -> Walk
     ensures { Walks index word.print silent b.now at out.old s out.new result }
 {
-    let ReadU32::Value(v, p) = numbers::decode_index(b, at) else {
-        return Walk::No;
+    let Some((v, p)) = numbers::decode_index(b, at) else {
+        return None;
     };
-    Walk::Got(p, append_word(v, out, s))
+    Some((p, append(v, out, s)))
 }
 
 pub fn read_inner(b: &[u8], at: usize, out: &mut [u32], s: Done) -> Walk
     ensures { Walks inner_bytes inner_words.print silent b.now at out.old s out.new result }
 {
-    if b.len() <= at {
-        return Walk::No;
+    match *b.get(at)? {
+        0x60 => {
+            let t = append(0, out, s);
+            read_func(b, at + 1, out, t)
+        }
+        0x5E => {
+            let t = append(1, out, s);
+            read_field(b, at + 1, out, t)
+        }
+        0x5F => {
+            let t = append(2, out, s);
+            read_list(Member::Field, b, at + 1, out, t)
+        }
+        0x5D => {
+            let t = append(3, out, s);
+            read_cont(b, at + 1, out, t)
+        }
+        _ => None,
     }
-    let k = b[at];
-    if k == 0x60 {
-        let t = append_word(0, out, s);
-        return read_func(b, at + 1, out, t);
-    }
-    if k == 0x5E {
-        let t = append_word(1, out, s);
-        return read_field(b, at + 1, out, t);
-    }
-    if k == 0x5F {
-        let t = append_word(2, out, s);
-        return read_list(Member::Field, b, at + 1, out, t);
-    }
-    if k == 0x5D {
-        let t = append_word(3, out, s);
-        return read_cont(b, at + 1, out, t);
-    }
-    Walk::No
 }

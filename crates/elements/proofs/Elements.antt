@@ -14,8 +14,8 @@ use Rattle.format.specs.Read.{one_read, none_read}
 use Rattle.format.specs.Sequence.{Joins, leaves, pair_plain, dep_known, first_missing, second_follows}
 use Rattle.format.specs.Walk.{Walks, nothing_there, walks_as}
 use Rattle.format.specs.declared.Done.{Done}
-use Rattle.format.specs.declared.Walk.{Walk}
-use Rattle.format.specs.declared.Walk.TheVariants as walks
+use Rattle.format.specs.Walk.{Walk}
+use Rattle.std.specs.Prelude.{None, Some}
 use Rattle.leb128.proofs.Formats.{u32}
 use Rattle.words.specs.WordWalks.{AreWords}
 use Rattle.words.specs.Words.{word}
@@ -25,8 +25,7 @@ use Rattle.types.specs.Words.{ref_words, ref_of, ref_to}
 use Rattle.types.specs.Bytes.{ref_bytes}
 use Rattle.words.specs.Words.{unused}
 use Rattle.types.specs.Answers.{ref_ans}
-use Rattle.types.specs.declared.RefRead.{RefRead}
-use Rattle.types.specs.declared.RefRead.TheVariants as refs
+use Rattle.std.specs.Prelude.{Option, Some}
 use Rattle.types.specs.declared.RefType.{RefType}
 use Rattle.refs.proofs.Words.{ref_words_there}
 use Rattle.parts.specs.Text.{expression}
@@ -57,9 +56,9 @@ module _ (said : Bool) {w : List ℕ} {at : ℕ} {old : List ℕ} {s : Done} whe
   pub type_said : said ≡ true → {new : List ℕ} {r : Walk} → Walks ref_words ref_bytes.print silent w at old s new r → Walks ref_words (type_of said) silent w at old s new r
   type_said t {new} {r} x = subst (λ (k : Bool). Walks ref_words (type_of k) silent w at old s new r) (sym t) x
 
-  pub type_unsaid : at < length w → 2 ≤ length w - at → {found : RefRead} → found ≡ ref_ans (ref_of (get_or w at 0, get_or w (at + 1) 0)) → said ≡ false → {x : RefType} → found ≡ refs.Ref x
-      → AreWords w → Walks ref_words (type_of said) silent w at old s old (walks.Got (at + 2) s)
-  type_unsaid h k d t e i = subst (λ (j : Bool). Walks ref_words (type_of j) silent w at old s old (walks.Got (at + 2) s)) (sym t) (ref_words_there h k d e (adds_nil old s) i)
+  pub type_unsaid : at < length w → 2 ≤ length w - at → {found : Option RefType} → found ≡ ref_ans (ref_of (get_or w at 0, get_or w (at + 1) 0)) → said ≡ false → {x : RefType} → found ≡ Some x
+      → AreWords w → Walks ref_words (type_of said) silent w at old s old (Some (at + 2, s))
+  type_unsaid h k d t e i = subst (λ (j : Bool). Walks ref_words (type_of j) silent w at old s old (Some (at + 2, s))) (sym t) (ref_words_there h k d e (adds_nil old s) i)
 
 -- ---- a type, and expressions
 
@@ -76,10 +75,10 @@ module _ (said : Bool) (t : List ℕ) where
       }
 
   module _ {w : List ℕ} {at : ℕ} {old : List ℕ} {s : Done} {new : List ℕ} {r : Walk} where
-    pub type_missing : Walks ref_words (type_of said) silent w at old s new r → r ≡ walks.No → Walks (elements_words_of true) (expressions_of said t) (expressions_low t) w at old s new walks.No
+    pub type_missing : Walks ref_words (type_of said) silent w at old s new r → r ≡ None → Walks (elements_words_of true) (expressions_of said t) (expressions_low t) w at old s new None
     type_missing x e = first_missing expressions_joins x e
 
-    pub type_then_list : {cur : List ℕ} {p : ℕ} {u : Done} {r' : Walk} → Walks ref_words (type_of said) silent w at old s cur r → r ≡ walks.Got p u
+    pub type_then_list : {cur : List ℕ} {p : ℕ} {u : Done} {r' : Walk} → Walks ref_words (type_of said) silent w at old s cur r → r ≡ Some (p, u)
         → Writing (listed expression) t w p cur u new r' → Walks (elements_words_of true) (expressions_of said t) (expressions_low t) w at old s new r'
     type_then_list x e y = second_follows expressions_joins x e y.writes
 
@@ -105,10 +104,10 @@ module _ {A : Type 0} (F : Format A) (f : A → List ℕ) where
   unused_joins = record { ends = leaves unused; join = λ u x. x; reads = both; writes = λ u x. refl; draws = λ u x. refl }
 
 module _ (said : Bool) {w : List ℕ} {at : ℕ} {old : List ℕ} {s : Done} {r : Walk} (x : (o : List ℕ) → Walks unused (λ u. []) silent w at o s o r) where
-  pub unused_missing : r ≡ walks.No → Walks (elements_words_of false) (functions_of said) silent w at old s old walks.No
+  pub unused_missing : r ≡ None → Walks (elements_words_of false) (functions_of said) silent w at old s old None
   unused_missing e = first_missing (unused_joins (many word word) (functions_of said)) (x old) e
 
-  module _ {p : ℕ} {u : Done} (e : r ≡ walks.Got p u) {new : List ℕ} {r' : Walk} where
+  module _ {p : ℕ} {u : Done} (e : r ≡ Some (p, u)) {new : List ℕ} {r' : Walk} where
     then_functions : (k : Bool) → said ≡ k → Walks (many word word) (functions_of k) silent w p old u new r' → Walks (elements_words_of false) (functions_of said) silent w at old s new r'
     then_functions k t y =
         subst (λ (j : Bool). Walks (elements_words_of false) (functions_of j) silent w at old s new r') (sym t) (second_follows (unused_joins (many word word) (functions_of k)) (x old) e y)
@@ -141,5 +140,5 @@ module _ (said : Bool) (t : List ℕ) {w : List ℕ} {at : ℕ} {old : List ℕ}
         → Walks elements_words (elements_of said t) (elements_low t) w at old s new r
     expressions_kind k x = kind_known true k x
 
-  pub no_kind : (get_or w at 0 ≡ 0 → ⊥) → (get_or w at 0 ≡ 1 → ⊥) → Walks elements_words (elements_of said t) (elements_low t) w at old s new walks.No
+  pub no_kind : (get_or w at 0 ≡ 0 → ⊥) → (get_or w at 0 ≡ 1 → ⊥) → Walks elements_words (elements_of said t) (elements_low t) w at old s new None
   no_kind a b = nothing_there (rw (none_read flag bit (λ k. refl) w at h (elim [ true ↦ b | false ↦ a ])))

@@ -13,8 +13,8 @@ use Rattle.format.specs.Read.{one_read, none_read}
 use Rattle.format.specs.Sequence.{dep_known}
 use Rattle.format.specs.Walk.{nothing_there, walks_as}
 use Rattle.format.specs.declared.Done.{Done}
-use Rattle.format.specs.declared.Walk.{Walk}
-use Rattle.format.specs.declared.Walk.TheVariants as walks
+use Rattle.format.specs.Walk.{Walk}
+use Rattle.std.specs.Prelude.{None, Some}
 use Rattle.parts.specs.Reading.{Reading, part_missing, part_follows}
 use Rattle.modes.specs.Mode.{mode_words, place}
 use Rattle.elements.specs.Members.{members}
@@ -39,7 +39,7 @@ last_flag f k a b c d e g i =
 
 module _ {b : List ℕ} {at : ℕ} {old : List ℕ} {s : Done} {new : List ℕ} where
   module _ (h : at < length b) where
-    pub no_such_flag : 7 < get_or b at 0 → Reading element_section b at old s new walks.No
+    pub no_such_flag : 7 < get_or b at 0 → Reading element_section b at old s new None
     no_such_flag l = record { reads = λ k. nothing_there (rw e) }
       where
         e : flag_byte.parse (drop at b) ≡ fail
@@ -57,11 +57,11 @@ module _ {b : List ℕ} {at : ℕ} {old : List ℕ} {s : Done} {new : List ℕ} 
 
       module _ (f : flag_of m (leb 4 (get_or b at 0)) ≡ get_or b at 0) where
         -- the place is not read
-        pub place_not_read : {r : Walk} → Reading (place m) b (at + 1) cur u new r → r ≡ walks.No → Reading element_section b at old s new walks.No
+        pub place_not_read : {r : Walk} → Reading (place m) b (at + 1) cur u new r → r ≡ None → Reading element_section b at old s new None
         place_not_read x q = body_reads (leb 4 (get_or b at 0)) f (part_missing (place m) (members (leb 4 (get_or b at 0)) (is_typed m)) x q)
 
         -- or it is, and the members behind it
-        module _ {mid : List ℕ} {r : Walk} (x : Reading (place m) b (at + 1) cur u mid r) {p : ℕ} {v : Done} (q : r ≡ walks.Got p v) {typed : Bool} (i : typed ≡ is_typed m) {r' : Walk} where
+        module _ {mid : List ℕ} {r : Walk} (x : Reading (place m) b (at + 1) cur u mid r) {p : ℕ} {v : Done} (q : r ≡ Some (p, v)) {typed : Bool} (i : typed ≡ is_typed m) {r' : Walk} where
           follow : (e : Bool) → leb 4 (get_or b at 0) ≡ e → Reading (members e typed) b p mid v new r' → Reading element_section b at old s new r'
           follow e l y = body_reads e (ap (flag_of m) (sym l) ∙ f) (part_follows (place m) (members e (is_typed m)) x q (as_members e (sym i) y))
 

@@ -9,8 +9,8 @@ use Rattle.format.specs.Count.{Appends, silent, adds_seq}
 use Rattle.format.specs.Lists.{many}
 use Rattle.format.specs.Walk.{Walks, nothing_left, nothing_there}
 use Rattle.format.specs.declared.Done.{Done}
-use Rattle.format.specs.declared.Walk.{Walk}
-use Rattle.format.specs.declared.Walk.TheVariants as walks
+use Rattle.format.specs.Walk.{Walk}
+use Rattle.std.specs.Prelude.{None, Some}
 use Rattle.leb128.proofs.Formats.{u32}
 use Rattle.exprs.specs.Grammar.{Expr, stop, more}
 use Rattle.exprs.specs.Laws.{expr}
@@ -44,11 +44,11 @@ module _ (e : Bool) {said k : Bool} {b : List ℕ} {at : ℕ} {old : List ℕ} {
 module _ {said : Bool} {b : List ℕ} {at : ℕ} {old : List ℕ} {s : Done} {new : List ℕ} where
   module _ (t : said ≡ true) where
     -- 00 says that they are functions
-    pub functions_end : length b ≤ at → Reading (members false said) b at old s new walks.No
+    pub functions_end : length b ≤ at → Reading (members false said) b at old s new None
     functions_end h = as_members false t (record { reads = λ k. nothing_left h refl })
 
     module _ (h : at < length b) where
-      pub functions_not : (get_or b at 0 ≡ 0 → ⊥) → Reading (members false said) b at old s new walks.No
+      pub functions_not : (get_or b at 0 ≡ 0 → ⊥) → Reading (members false said) b at old s new None
       functions_not n = as_members false t (record { reads = λ k. nothing_there (tag_not 0x00 (many u32 u32) b at h n) })
 
       pub said_functions : {o₁ : List ℕ} {s₁ : Done} {cur : List ℕ} {u : Done} {r : Walk} → get_or b at 0 ≡ 0 → Appends (0 ∷ []) old s o₁ s₁ → Appends (0 ∷ 0 ∷ []) o₁ s₁ cur u
@@ -63,10 +63,10 @@ module _ {said : Bool} {b : List ℕ} {at : ℕ} {old : List ℕ} {s : Done} {ne
       typed : {r' : Walk} → Reading (both ref_type (listed expression)) b at o₁ s₁ new r' → Reading (members true said) b at old s new r'
       typed x = as_members true t (words_before (both ref_type (listed expression)) expressions (1 ∷ []) (λ s. refl) (λ n y. refl) a x)
 
-      pub type_not_read : {r : Walk} → Walks ref_bytes ref_words.print silent b at o₁ s₁ new r → r ≡ walks.No → Reading (members true said) b at old s new walks.No
+      pub type_not_read : {r : Walk} → Walks ref_bytes ref_words.print silent b at o₁ s₁ new r → r ≡ None → Reading (members true said) b at old s new None
       type_not_read x e = typed (part_missing ref_type (listed expression) (record { reads = λ k. x }) e)
 
-      pub typed_reads : {cur : List ℕ} {p : ℕ} {u : Done} {r r' : Walk} → Walks ref_bytes ref_words.print silent b at o₁ s₁ cur r → r ≡ walks.Got p u
+      pub typed_reads : {cur : List ℕ} {p : ℕ} {u : Done} {r r' : Walk} → Walks ref_bytes ref_words.print silent b at o₁ s₁ cur r → r ≡ Some (p, u)
           → Reading (listed expression) b p cur u new r' → Reading (members true said) b at old s new r'
       typed_reads x e y = typed (part_follows ref_type (listed expression) (record { reads = λ k. x }) e y)
 

@@ -16,8 +16,8 @@ use Rattle.format.specs.Read.{too_few}
 use Rattle.format.specs.Sequence.{Joins, leaves, pair_plain, dep_known, first_missing, second_follows}
 use Rattle.format.specs.Walk.{Walks, nothing_there, walks_read}
 use Rattle.format.specs.declared.Done.{Done}
-use Rattle.format.specs.declared.Walk.{Walk}
-use Rattle.format.specs.declared.Walk.TheVariants as walks
+use Rattle.format.specs.Walk.{Walk}
+use Rattle.std.specs.Prelude.{None, Some}
 use Rattle.texts.specs.declared.Span.{Span}
 use Rattle.parts.specs.Writing.{Writing, item_of, low_of, lowest_behind}
 use Rattle.modes.specs.Mode.{mode_words, mode_read, PlaceOf, place}
@@ -25,8 +25,7 @@ use Rattle.elements.specs.Segment.{ElementsOf, Elements, Segment, elements_words
 use Rattle.elements.specs.Written.{is_other, head_of, is_said, elements_of, elements_low, head_word, item_written, low_written}
 use Rattle.elements.specs.Section.{element_section}
 use Rattle.modes.specs.declared.Mode.{Mode}
-use Rattle.modes.specs.declared.ModeRead.{ModeRead}
-use Rattle.modes.specs.declared.ModeRead.TheVariants as modes
+use Rattle.std.specs.Prelude.{Option, None, Some}
 use Rattle.modes.specs.declared.Mode.TheVariants.{Active, Passive, ActiveTable, Declared}
 use Rattle.modes.proofs.Modes.{mode_long, mode_missing, mode_found, mode_within}
 
@@ -125,20 +124,20 @@ module _ (t w : List ℕ) (at : ℕ) (m : Mode) (is : mode_words.parse (drop at 
 
 -- ---- what the code has read
 
-module _ {t w : List ℕ} {at : ℕ} {old : List ℕ} {s : Done} {new : List ℕ} {found : ModeRead} (d : found ≡ mode_read (mode_words.parse (drop at w))) where
-  pub no_mode_there : found ≡ modes.No → Writing element_section t w at old s new walks.No
+module _ {t w : List ℕ} {at : ℕ} {old : List ℕ} {s : Done} {new : List ℕ} {found : Option Mode} (d : found ≡ mode_read (mode_words.parse (drop at w))) where
+  pub no_mode_there : found ≡ None → Writing element_section t w at old s new None
   no_mode_there e = record { writes = nothing_there (rw (mode_missing w at d e)) }
 
-  module _ {m : Mode} (e : found ≡ modes.Is m) where
-    pub segment_short : length w - at < 8 → Writing element_section t w at old s new walks.No
+  module _ {m : Mode} (e : found ≡ Some m) where
+    pub segment_short : length w - at < 8 → Writing element_section t w at old s new None
     segment_short k = record { writes = nothing_there (too_few words 8 (omega arith) (λ x ok. segment_long x) w at (omega (arith, mode_within w at d e))) }
 
     module _ {o : Bool} (oe : o ≡ is_other m (eqb (get_or w (at + 5) 0) 1) (get_or w (at + 6) 0)) {cur : List ℕ} {u : Done} (a : Appends (head_of o m (eqb (get_or w (at + 5) 0) 1)) old s cur u) where
-      pub place_missing : {r : Walk} → Writing (place m) t w (at + 2) cur u new r → r ≡ walks.No → Writing element_section t w at old s new walks.No
+      pub place_missing : {r : Walk} → Writing (place m) t w (at + 2) cur u new r → r ≡ None → Writing element_section t w at old s new None
       place_missing x q =
           segment_walks t w at m (mode_found w at d e) o (is_said o m) oe refl a (first_missing (rest_joins t m (is_said o m)) x.writes q)
 
-      pub elements_follow : {mid : List ℕ} {r : Walk} {p : ℕ} {v : Done} {said : Bool} {r' : Walk} → Writing (place m) t w (at + 2) cur u mid r → r ≡ walks.Got p v → said ≡ is_said o m
+      pub elements_follow : {mid : List ℕ} {r : Walk} {p : ℕ} {v : Done} {said : Bool} {r' : Walk} → Writing (place m) t w (at + 2) cur u mid r → r ≡ Some (p, v) → said ≡ is_said o m
           → Walks elements_words (elements_of said t) (elements_low t) w p mid v new r' → Writing element_section t w at old s new r'
       elements_follow {said = said} x q i y =
           segment_walks t w at m (mode_found w at d e) o said oe i a (second_follows (rest_joins t m said) x.writes q y)

@@ -4,15 +4,13 @@ ghost use Rattle.texts.specs.Judge.{text_most};
 ghost use Rattle.parts.specs.Text.{expression};
 ghost use Rattle.parts.specs.Listed.{listed};
 ghost use Rattle.parts.specs.Reading.{Reading};
-ghost use Rattle.parts.specs.ListWalks.{MembersRead};
 ghost use Rattle.elements.specs.Members.{members};
 ghost use Rattle.elements.specs.Item.{flag_of, is_typed};
 ghost use Rattle.elements.specs.Section.{element_section};
 
-use format::{Done, Walk, append_word};
+use format::{Done, Walk, append};
 use lists::{Member, read_list};
 use modes::{Mode, append_mode, append_two, read_place};
-use numbers::ReadU32;
 use parts::read_expr;
 use refs::{append_ref_words, read_ref};
 use types::RefType;
@@ -38,52 +36,25 @@ fn flag_mode(f: u8) -> Mode
 fn read_functions(said: bool, b: &[u8], at: usize, out: &mut [u32], s: Done) -> Walk
     ensures { Reading (members false said) b.now at out.old s out.new result }
 {
-    let t = append_word(0, out, s);
+    let t = append(0, out, s);
     let u = append_two(0, 0, out, t);
     if said {
         if b.len() <= at {
-            return Walk::No;
+            return None;
         }
         if b[at] != 0x00 {
-            return Walk::No;
+            return None;
         }
         return read_list(Member::Index, b, at + 1, out, u);
     }
     read_list(Member::Index, b, at, out, u)
 }
 
-// n expressions.
-fn read_members(n: usize, b: &[u8], at: usize, out: &mut [u32], s: Done) -> Walk
-    requires { (at ≤ length b.now) × (length b.now ≤ text_most) }
-    ensures { MembersRead expression b.now at n out.old s out.new result }
-{
-    let mut t = s;
-    let mut p = at;
-    let mut left = n;
-    while 0 < left {
-        let Walk::Got(q, u) = read_expr(b, p, out, t) else {
-            return Walk::No;
-        };
-        p = q;
-        t = u;
-        left = left - 1;
-    }
-    Walk::Got(p, t)
-}
-
-// A count larger than what is left is answered at once, since each member takes a byte.
 fn read_exprs(b: &[u8], at: usize, out: &mut [u32], s: Done) -> Walk
     requires { length b.now ≤ text_most }
     ensures { Reading (listed expression) b.now at out.old s out.new result }
 {
-    let ReadU32::Value(n, p) = numbers::decode_u32(b, at) else {
-        return Walk::No;
-    };
-    if b.len() - p < n as usize {
-        return Walk::No;
-    }
-    let t = append_word(n, out, s);
-    read_members(n as usize, b, p, out, t)
+    words::read_list(b, at, out, s, move |p, out, t| read_expr(b, p, out, t))
 }
 
 // The type, which is nullable unshared func where it is not said, and the list of expressions.
@@ -91,11 +62,9 @@ fn read_expressions(said: bool, b: &[u8], at: usize, out: &mut [u32], s: Done) -
     requires { length b.now ≤ text_most }
     ensures { Reading (members true said) b.now at out.old s out.new result }
 {
-    let t = append_word(1, out, s);
+    let t = append(1, out, s);
     if said {
-        let Walk::Got(p, u) = read_ref(b, at, out, t) else {
-            return Walk::No;
-        };
+        let (p, u) = read_ref(b, at, out, t)?;
         return read_exprs(b, p, out, u);
     }
     let u = append_ref_words(RefType::FUNCREF, out, t);
@@ -120,17 +89,15 @@ pub fn walk_bytes(b: &[u8], at: usize, out: &mut [u32], s: Done) -> Walk
     ensures { Reading element_section b.now at out.old s out.new result }
 {
     if b.len() <= at {
-        return Walk::No;
+        return None;
     }
     let f = b[at];
     if 7 < f {
-        return Walk::No;
+        return None;
     }
     let m = flag_mode(f);
     let t = append_mode(m, out, s);
-    let Walk::Got(p, u) = read_place(m, b, at + 1, out, t) else {
-        return Walk::No;
-    };
+    let (p, u) = read_place(m, b, at + 1, out, t)?;
     if f < 4 {
         return read_functions(is_typed(m), b, p, out, u);
     }

@@ -1,24 +1,22 @@
 // Writing element segments: their words at a place, and their bytes.
-ghost use Rattle.std.specs.Prelude.{◌≡◌, false, true, ◌≤◌, length};
+ghost use Rattle.std.specs.Prelude.{◌≡◌, false, true};
 ghost use Rattle.format.specs.Count.{Appends, silent};
 ghost use Rattle.format.specs.Walk.{Walks};
 ghost use Rattle.types.specs.Words.{ref_words};
 ghost use Rattle.parts.specs.Text.{expression};
 ghost use Rattle.parts.specs.Listed.{listed};
 ghost use Rattle.parts.specs.Writing.{Writing};
-ghost use Rattle.parts.specs.ListWalks.{MembersWritten};
 ghost use Rattle.elements.specs.Segment.{elements_words_of, elements_words};
 ghost use Rattle.elements.specs.Item.{flag_of};
 ghost use Rattle.elements.specs.Written.{is_other, is_said, head_of, type_of, functions_of, expressions_of, expressions_low, elements_of, elements_low};
 ghost use Rattle.elements.specs.Section.{element_section};
 
-use format::{Done, Walk, append_byte};
+use format::{Done, Walk, append};
 use lists::{Member, walk_list};
-use modes::{Mode, ModeRead, find_mode, walk_place};
-use numbers::append_u32;
+use modes::{Mode, find_mode, walk_place};
 use parts::walk_expr;
 use refs::walk_ref;
-use types::{RefRead, RefType};
+use types::RefType;
 use words::walk_unused;
 
 // Whether expressions without a table are of another type than nullable unshared func, by its word h: only that type need not be said.
@@ -75,21 +73,19 @@ fn append_flag(other: bool, m: Mode, expressions: bool, out: &mut [u8], s: Done)
     ensures { Appends (head_of other m expressions) out.old s out.new result }
 {
     if other {
-        let t = append_byte(0x06, out, s);
-        return append_byte(0x00, out, t);
+        let t = append(0x06, out, s);
+        return append(0x00, out, t);
     }
-    append_byte(flag(m, expressions), out, s)
+    append(flag(m, expressions), out, s)
 }
 
 // Two unused words, 00 where the kind is said, and the list of indices.
 fn walk_functions(said: bool, words: &[u32], at: usize, out: &mut [u8], s: Done) -> Walk
     ensures { Walks (elements_words_of false) (functions_of said) silent words.now at out.old s out.new result }
 {
-    let Walk::Got(p, t) = walk_unused(words, at, s) else {
-        return Walk::No;
-    };
+    let (p, t) = walk_unused(words, at, s)?;
     if said {
-        let u = append_byte(0x00, out, t);
+        let u = append(0x00, out, t);
         return walk_list(Member::Index, words, p, out, u);
     }
     walk_list(Member::Index, words, p, out, t)
@@ -103,49 +99,23 @@ fn walk_type(said: bool, words: &[u32], at: usize, out: &mut [u8], s: Done) -> W
         return walk_ref(words, at, out, s);
     }
     if words.len() <= at {
-        return Walk::No;
+        return None;
     }
     if words.len() - at < 2 {
-        return Walk::No;
+        return None;
     }
     match RefType::from_words(words[at], words[at + 1]) {
-        RefRead::Ref(_) => Walk::Got(at + 2, s),
-        RefRead::No => Walk::No,
+        Some(_) => Some((at + 2, s)),
+        None => None,
     }
 }
 
-// n expressions.
-fn walk_members(n: usize, words: &[u32], at: usize, text: &[u8], out: &mut [u8], s: Done) -> Walk
-    requires { at ≤ length words.now }
-    ensures { MembersWritten expression text.now words.now at n out.old s out.new result }
-{
-    let mut t = s;
-    let mut p = at;
-    let mut left = n;
-    while 0 < left {
-        let Walk::Got(q, u) = walk_expr(words, p, text, out, t) else {
-            return Walk::No;
-        };
-        p = q;
-        t = u;
-        left = left - 1;
-    }
-    Walk::Got(p, t)
-}
-
-// A count larger than what is left is answered at once, since each member takes a word.
 fn walk_exprs(words: &[u32], at: usize, text: &[u8], out: &mut [u8], s: Done) -> Walk
     ensures { Writing (listed expression) text.now words.now at out.old s out.new result }
 {
-    if words.len() <= at {
-        return Walk::No;
-    }
-    let n = words[at];
-    if words.len() - at - 1 < n as usize {
-        return Walk::No;
-    }
-    let t = append_u32(n, out, s);
-    walk_members(n as usize, words, at + 1, text, out, t)
+    words::walk_list(words, at, out, s, move |p, out, t| {
+        walk_expr(words, p, text, out, t)
+    })
 }
 
 // The reference type, and the list of expressions.
@@ -159,9 +129,7 @@ fn walk_expressions(
 ) -> Walk
     ensures { Walks (elements_words_of true) (expressions_of said text.now) (expressions_low text.now) words.now at out.old s out.new result }
 {
-    let Walk::Got(p, t) = walk_type(said, words, at, out, s) else {
-        return Walk::No;
-    };
+    let (p, t) = walk_type(said, words, at, out, s)?;
     walk_exprs(words, p, text, out, t)
 }
 
@@ -170,12 +138,12 @@ fn walk_elements(said: bool, words: &[u32], at: usize, text: &[u8], out: &mut [u
     ensures { Walks elements_words (elements_of said text.now) (elements_low text.now) words.now at out.old s out.new result }
 {
     if words.len() <= at {
-        return Walk::No;
+        return None;
     }
     match words[at] {
         0 => walk_functions(said, words, at + 1, out, s),
         1 => walk_expressions(said, words, at + 1, text, out, s),
-        _ => Walk::No,
+        _ => None,
     }
 }
 
@@ -183,17 +151,13 @@ fn walk_elements(said: bool, words: &[u32], at: usize, text: &[u8], out: &mut [u
 pub fn walk_words(words: &[u32], at: usize, text: &[u8], out: &mut [u8], s: Done) -> Walk
     ensures { Writing element_section text.now words.now at out.old s out.new result }
 {
-    let ModeRead::Is(m) = find_mode(words, at) else {
-        return Walk::No;
-    };
+    let m = find_mode(words, at)?;
     if words.len() - at < 8 {
-        return Walk::No;
+        return None;
     }
     let expressions = words[at + 5] == 1;
     let other = is_other(m, expressions, words[at + 6]);
     let t = append_flag(other, m, expressions, out, s);
-    let Walk::Got(p, u) = walk_place(m, words, at + 2, text, out, t) else {
-        return Walk::No;
-    };
+    let (p, u) = walk_place(m, words, at + 2, text, out, t)?;
     walk_elements(is_said(other, m), words, p, text, out, u)
 }

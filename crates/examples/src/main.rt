@@ -4,28 +4,21 @@
 
 ghost use Rattle.std.specs.Prelude.{◌<◌};
 
-use format::Written;
 use frames::State;
 use module::{Finished, Given};
-use numbers::{ReadI32, ReadI64, ReadU64};
 use std::io::Print;
-use thriftbell::{Added, Taken};
+use thriftbell::{Added, Refusal, Written};
 
 // A passive data record, of the first byte of its text.
 const PASSIVE: [u32; 7] = [11, 0, 0, 0, 0, 0, 1];
 
+// What can't be written is passed over.
 fn say<W: Print>(to: &W, text: &[u8]) {
-    match to.write_all(text) {
-        Ok(()) => {}
-        Err(_) => {}
-    }
+    let _ = to.write_all(text);
 }
 
 fn say_number<W: Print>(to: &W, n: u64) {
-    match to.print(n) {
-        Ok(()) => {}
-        Err(_) => {}
-    }
+    let _ = to.print(n);
 }
 
 fn digit(d: u8) -> u8
@@ -36,62 +29,41 @@ fn digit(d: u8) -> u8
 
 // The first n bytes, each in two digits.
 fn show<W: Print>(to: &W, s: &[u8], n: usize) {
-    let mut i = 0;
-    while i < n {
-        if s.len() <= i {
-            return;
-        }
-        let b = s[i];
+    for &b in s.iter().take(n) {
         say(to, &[b' ', digit(b / 16), digit(b % 16)]);
-        i += 1;
     }
 }
 
 fn show_written<W: Print>(to: &W, w: Written, out: &[u8]) {
     match w {
-        Written::Length(n) => {
-            show(to, out, n);
-        }
-        Written::Short => {
-            say(to, b" refused, 10");
-        }
+        Ok(n) => show(to, out, n),
+        Err(_) => say(to, b" refused, 10"),
     }
 }
 
 fn end<W: Print>(to: &W, back: bool) {
-    if back {
-        say(to, b", read back\n");
-    } else {
-        say(to, b", NOT read back\n");
-    }
+    say(
+        to,
+        if back {
+            b", read back\n".as_slice()
+        } else {
+            b", NOT read back\n".as_slice()
+        },
+    );
 }
 
 fn unsigned<W: Print>(to: &W, name: &[u8], v: u64) {
     let mut out = [0u8; 10];
     say(to, name);
     show_written(to, numbers::encode_u64(v, &mut out), &out);
-    match numbers::decode_u64(&out, 0) {
-        ReadU64::Value(w, _) => {
-            end(to, v == w);
-        }
-        ReadU64::Nothing => {
-            end(to, false);
-        }
-    }
+    end(to, numbers::decode_u64(&out, 0).is_some_and(|r| r.0 == v));
 }
 
 fn signed<W: Print>(to: &W, name: &[u8], v: i64) {
     let mut out = [0u8; 10];
     say(to, name);
     show_written(to, numbers::encode_i64(v, &mut out), &out);
-    match numbers::decode_i64(&out, 0) {
-        ReadI64::Value(w, _) => {
-            end(to, v == w);
-        }
-        ReadI64::Nothing => {
-            end(to, false);
-        }
-    }
+    end(to, numbers::decode_i64(&out, 0).is_some_and(|r| r.0 == v));
 }
 
 // What the old emitter did: the bytes of unsigned 9999 in a signed field.
@@ -100,16 +72,9 @@ fn fault<W: Print>(to: &W) {
     say(to, b"unsigned 9999, in a signed field:");
     show_written(to, numbers::encode_u32(9999, &mut out), &out);
     match numbers::decode_i32(&out, 0) {
-        ReadI32::Value(v, _) => {
-            if v == -6385 {
-                say(to, b", read as -6385\n");
-            } else {
-                say(to, b", read as another number\n");
-            }
-        }
-        ReadI32::Nothing => {
-            say(to, b", not read\n");
-        }
+        Some((-6385, _)) => say(to, b", read as -6385\n"),
+        Some(_) => say(to, b", read as another number\n"),
+        None => say(to, b", not read\n"),
     }
 }
 
@@ -123,30 +88,27 @@ fn short<W: Print>(to: &W) {
     say(to, b"\n");
 }
 
-fn refused<W: Print>(to: &W, k: u32) {
+fn refused<W: Print>(to: &W, r: Refusal) {
     say(to, b" refused, ");
-    say_number(to, k as u64);
+    say_number(to, r.number() as u64);
     say(to, b"\n");
 }
 
 // What an add answered, in words.
 fn show_added<W: Print>(to: &W, a: Added) {
-    if a.number == 0 {
-        say(to, b" accepted\n");
-        return;
+    match a {
+        Ok(_) => say(to, b" accepted\n"),
+        Err(r) => refused(to, r),
     }
-    refused(to, a.number);
 }
 
 fn show_finished<W: Print>(to: &W, f: Finished, out: &[u8]) {
     match f {
-        Finished::Length(n) => {
+        Ok(n) => {
             show(to, out, n);
             say(to, b"\n");
         }
-        Finished::Refused(k) => {
-            refused(to, k);
-        }
+        Err(r) => refused(to, r),
     }
 }
 
@@ -162,12 +124,10 @@ fn whole_case<W: Print>(to: &W) {
     let mut store = [0u8; 32];
     let mut out = [0u8; 17];
     let mut less = [0u8; 16];
-    let a = thriftbell::add(State::new(), &mut store, &PASSIVE, b"A");
-    if a.number != 0 {
+    let Ok(state) = thriftbell::add(State::new(), &mut store, &PASSIVE, b"A") else {
         say(to, b"not added\n");
         return;
-    }
-    let state = a.state;
+    };
     say(to, b"data count and data, a passive record:");
     show_module(to, state, &store, &mut out);
     say(to, b"into one byte less:");
@@ -176,11 +136,9 @@ fn whole_case<W: Print>(to: &W) {
 
 // The words of a record.
 fn show_words<W: Print>(to: &W, words: &[u32]) {
-    let mut i = 0;
-    while i < words.len() {
+    for &w in words {
         say(to, b" ");
-        say_number(to, words[i] as u64);
-        i += 1;
+        say_number(to, w as u64);
     }
 }
 
@@ -189,14 +147,12 @@ fn show_item<W: Print>(to: &W, id: u8, item: &[u8], back: &mut [u32]) {
     say(to, b"its item:");
     show(to, item, item.len());
     match thriftbell::read_item(id, item, back) {
-        Taken::Took(_, _) => {
+        Ok(_) => {
             say(to, b", read back as");
             show_words(to, back);
             say(to, b"\n");
         }
-        Taken::Refused(_) => {
-            end(to, false);
-        }
+        Err(_) => end(to, false),
     }
 }
 

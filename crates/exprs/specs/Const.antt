@@ -2,7 +2,7 @@
 use Rattle.std.specs.Prelude.{◌≡◌, ◌↔◌, true, List, [], ◌∷◌, ◌++◌, ℕ, ◌+◌, ◌≤◌, ℤ, length}
 use Rattle.std.proofs.Common.{arith, length-append}
 use Rattle.format.specs.Write.{Writes, outcome, zero_exactly as written-zero}
-use Rattle.format.specs.declared.Written.{Written}
+use Rattle.format.specs.Write.{Written}
 use Rattle.leb128.specs.Leb.{signed, within, sleb}
 use Rattle.leb128.proofs.Standard.{s_written}
 use Rattle.exprs.specs.Grammar.{i32_const, i64_const, Expr, stop, more}

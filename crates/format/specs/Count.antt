@@ -5,8 +5,7 @@ use Rattle.std.proofs.Common.{sym, ◌∙◌, ap, subst, append_assoc, append-ni
 use Rattle.std.proofs.Math.Seq.{set-append_seam}
 use borrow.Rule.Slice.PartMut.{put_mid, mid_of, same_len_mid}
 use Rattle.format.specs.Read.{drop_more}
-use Rattle.format.specs.Write.{over, Writes, wrote, rest_lent, rest_back}
-use Rattle.format.specs.declared.Written.{Written}
+use Rattle.format.specs.Write.{Written, over, Writes, wrote, rest_lent, rest_back}
 use Rattle.format.specs.declared.Done.{Done}
 
 -- stands for no refusal: it is above all that a text draws (3, 4, 5)
@@ -42,69 +41,69 @@ abbrev pub lowered : Done → ℕ → Done
 lowered s k = record { v = low_room * count_in s + min (low_in s) k }
 
 -- p was appended to a buffer that held old and now holds out; l is the lowest refusal
-pub record Has (p : List ℕ) (l : ℕ) (old out : List ℕ) (s : Done) : Type 0 where
+pub record Has {A : Type 0} (p : List A) (l : ℕ) (old out : List A) (s : Done) : Type 0 where
   pub holds : s.v ≡ low_room * counted (length p) + l
   pub small : l ≤ no_refusal
   pub kept : length out ≡ length old
   pub bytes : length p ≤ count_most → length p ≤ length old → out ≡ over p old
 
-pub has_count : {p : List ℕ} {l : ℕ} {old out : List ℕ} {s : Done} → Has p l old out s → count_in s ≡ counted (length p)
+pub has_count : {A : Type 0} {p : List A} {l : ℕ} {old out : List A} {s : Done} → Has p l old out s → count_in s ≡ counted (length p)
 has_count h = omega (arith, h.holds, h.small)
 
-pub has_lowest : {p : List ℕ} {l : ℕ} {old out : List ℕ} {s : Done} → Has p l old out s → low_in s ≡ l
+pub has_lowest : {A : Type 0} {p : List A} {l : ℕ} {old out : List A} {s : Done} → Has p l old out s → low_in s ≡ l
 has_lowest h = omega (arith, h.holds, h.small)
 
 -- q is appended, with the refusal m, whatever was appended before
-pub record Adds (q : List ℕ) (m : ℕ) (before : List ℕ) (s : Done) (after : List ℕ) (t : Done) : Type 0 where
-  pub more : (p : List ℕ) (l : ℕ) (old : List ℕ) → Has p l old before s → Has (p ++ q) (min l m) old after t
+pub record Adds {A : Type 0} (q : List A) (m : ℕ) (before : List A) (s : Done) (after : List A) (t : Done) : Type 0 where
+  pub more : (p : List A) (l : ℕ) (old : List A) → Has p l old before s → Has (p ++ q) (min l m) old after t
 
 -- and no refusal is drawn
-abbrev pub Appends : List ℕ → List ℕ → Done → List ℕ → Done → Type 0
+abbrev pub Appends : {A : Type 0} → List A → List A → Done → List A → Done → Type 0
 Appends q = Adds q no_refusal
 
-pub has_eq : {p q : List ℕ} {l m : ℕ} {old out : List ℕ} {s : Done} → p ≡ q → l ≡ m → Has p l old out s → Has q m old out s
-has_eq {p} {q} {l} {m} {old} {out} {s} e f h = subst (λ (x : List ℕ). Has x m old out s) e (subst (λ (k : ℕ). Has p k old out s) f h)
+pub has_eq : {A : Type 0} {p q : List A} {l m : ℕ} {old out : List A} {s : Done} → p ≡ q → l ≡ m → Has p l old out s → Has q m old out s
+has_eq {A} {p} {q} {l} {m} {old} {out} {s} e f h = subst (λ (x : List A). Has x m old out s) e (subst (λ (k : ℕ). Has p k old out s) f h)
 
-pub adds_eq : {p q : List ℕ} {l m : ℕ} {a b : List ℕ} {s t : Done} → p ≡ q → l ≡ m → Adds p l a s b t → Adds q m a s b t
-adds_eq {p} {q} {l} {m} {a} {b} {s} {t} e f h = subst (λ (x : List ℕ). Adds x m a s b t) e (subst (λ (k : ℕ). Adds p k a s b t) f h)
+pub adds_eq : {A : Type 0} {p q : List A} {l m : ℕ} {a b : List A} {s t : Done} → p ≡ q → l ≡ m → Adds p l a s b t → Adds q m a s b t
+adds_eq {A} {p} {q} {l} {m} {a} {b} {s} {t} e f h = subst (λ (x : List A). Adds x m a s b t) e (subst (λ (k : ℕ). Adds p k a s b t) f h)
 
 pub min_assoc : (a b c : ℕ) → min (min a b) c ≡ min a (min b c)
 min_assoc a b c = omega arith
 
 -- ---- one after the other
 
-pub adds_nil : (a : List ℕ) (s : Done) → Appends [] a s a s
-adds_nil a s = record { more = go }
+pub adds_nil : {A : Type 0} (a : List A) (s : Done) → Appends [] a s a s
+adds_nil {A} a s = record { more = go }
   where
-    go : (p : List ℕ) (l : ℕ) (old : List ℕ) → Has p l old a s → Has (p ++ []) (min l no_refusal) old a s
+    go : (p : List A) (l : ℕ) (old : List A) → Has p l old a s → Has (p ++ []) (min l no_refusal) old a s
     go p l old h = let i : l ≤ no_refusal = h.small in has_eq (sym (append-nil p)) (omega arith) h
 
-pub adds_seq : {p q : List ℕ} {l m : ℕ} {a b c : List ℕ} {s t u : Done} → Adds p l a s b t → Adds q m b t c u → Adds (p ++ q) (min l m) a s c u
+pub adds_seq : {A : Type 0} {p q : List A} {l m : ℕ} {a b c : List A} {s t u : Done} → Adds p l a s b t → Adds q m b t c u → Adds (p ++ q) (min l m) a s c u
 adds_seq {p} {q} {l} {m} {a} {b} {c} {s} {t} {u} x y =
     record { more = λ r k old h. has_eq (append_assoc r p q) (min_assoc k l m) (y.more (r ++ p) (min k l) old (x.more r k old h)) }
 
 -- a refusal is drawn too
-pub adds_low : {q : List ℕ} {m : ℕ} {a : List ℕ} {s : Done} {b : List ℕ} {t : Done} (k : ℕ) → Adds q m a s b t → Adds q (min m k) a s b (lowered t k)
-adds_low {q} {m} {a} {s} {b} {t} k x = record { more = go }
+pub adds_low : {A : Type 0} {q : List A} {m : ℕ} {a : List A} {s : Done} {b : List A} {t : Done} (k : ℕ) → Adds q m a s b t → Adds q (min m k) a s b (lowered t k)
+adds_low {A} {q} {m} {a} {s} {b} {t} k x = record { more = go }
   where
-    go : (p : List ℕ) (l : ℕ) (old : List ℕ) → Has p l old a s → Has (p ++ q) (min l (min m k)) old b (lowered t k)
+    go : (p : List A) (l : ℕ) (old : List A) → Has p l old a s → Has (p ++ q) (min l (min m k)) old b (lowered t k)
     go p l old h =
         let g = x.more p l old h in
         record { holds = omega (arith, g.holds, g.small); small = omega (arith, g.small); kept = g.kept; bytes = g.bytes }
 
 -- ---- the start, where nothing has been appended yet, and the end
 
-pub has_start : (old : List ℕ) (s : Done) (l : ℕ) → s.v ≡ l → l ≤ no_refusal → Has [] l old old s
+pub has_start : {A : Type 0} (old : List A) (s : Done) (l : ℕ) → s.v ≡ l → l ≤ no_refusal → Has [] l old old s
 has_start old s l e h = record { holds = omega (arith, e); small = h; kept = refl; bytes = λ i k. refl }
 
-pub adds_fresh : {q : List ℕ} {m : ℕ} {old new : List ℕ} {s t : Done} → Adds q m old s new t → s.v ≡ no_refusal → m ≤ no_refusal → Has q m old new t
+pub adds_fresh : {A : Type 0} {q : List A} {m : ℕ} {old new : List A} {s t : Done} → Adds q m old s new t → s.v ≡ no_refusal → m ≤ no_refusal → Has q m old new t
 adds_fresh {q} {m} {old} {new} {s} x e h = has_eq refl (omega arith) (x.more [] no_refusal old (has_start old s no_refusal e (omega arith)))
 
 -- ---- a leaf: it is counted, and where all fits it leaves its bytes behind those before
 
-module _ (b out new : List ℕ) (s t : Done) (g : t.v ≡ grown_by s (length b)) (k : length new ≡ length out) where
-  leaf_has : ((p old : List ℕ) → count_in s ≡ length p → length p + length b ≤ length out → length out ≡ length old → out ≡ over p old → new ≡ over (p ++ b) old)
-      → (p : List ℕ) (l : ℕ) (old : List ℕ) → Has p l old out s → Has (p ++ b) (min l no_refusal) old new t
+module _ {A : Type 0} (b out new : List A) (s t : Done) (g : t.v ≡ grown_by s (length b)) (k : length new ≡ length out) where
+  leaf_has : ((p old : List A) → count_in s ≡ length p → length p + length b ≤ length out → length out ≡ length old → out ≡ over p old → new ≡ over (p ++ b) old)
+      → (p : List A) (l : ℕ) (old : List A) → Has p l old out s → Has (p ++ b) (min l no_refusal) old new t
   leaf_has w p l old h =
       let c = has_count h in
       let e = has_lowest h in
@@ -118,21 +117,21 @@ module _ (b out new : List ℕ) (s t : Done) (g : t.v ≡ grown_by s (length b))
         bytes = λ u v. w p old (omega (arith, c)) (omega arith) o (h.bytes (omega arith) (omega arith));
       }
 
-  pub adds_leaf : ((p old : List ℕ) → count_in s ≡ length p → length p + length b ≤ length out → length out ≡ length old → out ≡ over p old → new ≡ over (p ++ b) old)
+  pub adds_leaf : ((p old : List A) → count_in s ≡ length p → length p + length b ≤ length out → length out ≡ length old → out ≡ over p old → new ≡ over (p ++ b) old)
       → Appends b out s new t
   adds_leaf w = record { more = leaf_has w }
 
 -- b over what stands behind p
-behind : (p b old : List ℕ) → p ++ over b (drop (length p) old) ≡ over (p ++ b) old
+behind : {A : Type 0} (p b old : List A) → p ++ over b (drop (length p) old) ≡ over (p ++ b) old
 behind p b old = rw (drop-drop, length-append, append_assoc)
 
 -- a writer was lent the part from the current end on
-pub adds_part : (b out part : List ℕ) {r : Written} (s t : Done) (at : ℕ) → at ≡ min (count_in s) (length out) → t.v ≡ grown_by s (length b)
+pub adds_part : {A : Type 0} (b out part : List A) {r : Written} (s t : Done) (at : ℕ) → at ≡ min (count_in s) (length out) → t.v ≡ grown_by s (length b)
     → length part ≡ length (mid_of at (length out - at) out) → Writes b (mid_of at (length out - at) out) part r
     → Appends b out s (put_mid at (length out - at) out part) t
-adds_part b out part {r} s t at is g k w = adds_leaf b out (put_mid at (length out - at) out part) s t g (same_len_mid at (length out - at) out part k) go
+adds_part {A} b out part {r} s t at is g k w = adds_leaf b out (put_mid at (length out - at) out part) s t g (same_len_mid at (length out - at) out part k) go
   where
-    go : (p old : List ℕ) → count_in s ≡ length p → length p + length b ≤ length out → length out ≡ length old → out ≡ over p old
+    go : (p old : List A) → count_in s ≡ length p → length p + length b ≤ length out → length out ≡ length old → out ≡ over p old
         → put_mid at (length out - at) out part ≡ over (p ++ b) old
     go p old e room o d =
         let v : Writes b (drop at out) part r = rw rest_lent at w in
@@ -143,7 +142,7 @@ adds_part b out part {r} s t at is g k w = adds_leaf b out (put_mid at (length o
         rw (rest_back at out part (omega arith), front, (wrote v fits).1, rest) (behind p b old)
 
 -- as `adds_part`, with the current end by the count's own name: the bytes are counted, whether there was room for them or not
-pub adds_lent : {b : List ℕ} (out : List ℕ) (s : Done) {n at : ℕ} → n ≡ count_in s → at ≡ min n (length out) → {part : List ℕ} {r : Written} → Writes b (mid_of at (length out - at) out) part r
+pub adds_lent : {A : Type 0} {b : List A} (out : List A) (s : Done) {n at : ℕ} → n ≡ count_in s → at ≡ min n (length out) → {part : List A} {r : Written} → Writes b (mid_of at (length out - at) out) part r
     → length part ≡ length (mid_of at (length out - at) out) → {t : Done} → t.v ≡ grown_by s (length b) → Appends b out s (put_mid at (length out - at) out part) t
 adds_lent {b} out s {n} {at} c is {part} {r} w k {t} g = adds_part b out part s t at (is ∙ ap (λ (m : ℕ). min m (length out)) c) g k w
 

@@ -9,8 +9,8 @@ use Rattle.format.specs.Count.{Appends, no_refusal, silent, adds_seq, adds_eq}
 use Rattle.format.specs.Walk.{Walked, Walking, nothing_there}
 use Rattle.format.specs.Loop.{prints_at, prints_at_plain, least_of, MembersAt}
 use Rattle.format.specs.declared.Done.{Done}
-use Rattle.format.specs.declared.Walk.{Walk}
-use Rattle.format.specs.declared.Walk.TheVariants as walks
+use Rattle.format.specs.Walk.{Walk}
+use Rattle.std.specs.Prelude.{None}
 
 -- N reads the count, and c is written of it; F reads a member, and f is written of one that stands at a place; f' is written of a list that does; g, g': what a
 -- member draws, and a list
@@ -23,12 +23,12 @@ pub record CountedList {A : Type 0} (N : Format ℕ) (c : ℕ → List ℕ) (F :
 
 module _ {A : Type 0} {N : Format ℕ} {c : ℕ → List ℕ} {F : Format A} {f : ℕ → A → List ℕ} {g : A → ℕ} {f' : ℕ → List A → List ℕ} {g' : List A → ℕ} (K : CountedList N c F f g f' g') {w : List ℕ}
     {at : ℕ} {old : List ℕ} {s : Done} {new : List ℕ} where
-  pub count_missing : N.parse (drop at w) ≡ fail → Walking (many N F).parse (f' at) g' w at old s new walks.No
+  pub count_missing : N.parse (drop at w) ≡ fail → Walking (many N F).parse (f' at) g' w at old s new None
   count_missing e = nothing_there (rw e)
 
   module _ (n p : ℕ) (e : N.parse (drop at w) ≡ got n (drop p w)) where
     -- more than numbers are left
-    pub count_exceeds : length w - p < n → Walking (many N F).parse (f' at) g' w at old s new walks.No
+    pub count_exceeds : length w - p < n → Walking (many N F).parse (f' at) g' w at old s new None
     count_exceeds h = nothing_there (rw (e, times_short F K.each n (drop p w) (omega (arith, length-drop p w))))
 
     pub members_follow : {cur : List ℕ} {t : Done} {r : Walk} → p ≤ length w → Appends (c n) old s cur t → MembersAt F f g w p n cur t new r

@@ -9,7 +9,7 @@ use Rattle.format.specs.Count.{Appends, no_refusal, silent, adds_nil}
 use Rattle.format.specs.Walk.{Walking, walks_as}
 use Rattle.format.specs.Sequence.{dep_known}
 use Rattle.format.specs.declared.Done.{Done}
-use Rattle.format.specs.declared.Walk.{Walk}
+use Rattle.format.specs.Walk.{Walk}
 
 -- X reads what Q reads, as something else, and of it is written the same
 pub record Renames {A B : Type 0} (Q : List ℕ → Parsed B) (f' : B → List ℕ) (g' : B → ℕ) (X : List ℕ → Parsed A) (f : A → List ℕ) (g : A → ℕ) : Type 0 where

@@ -12,7 +12,7 @@ use Rattle.format.specs.Count.{silent}
 use Rattle.format.specs.Sequence.{Joins, joins_map}
 use Rattle.format.specs.Walk.{Walking}
 use Rattle.format.specs.declared.Done.{Done}
-use Rattle.format.specs.declared.Walk.{Walk}
+use Rattle.format.specs.Walk.{Walk}
 
 -- begins: the numbers that it begins with where it is there. What follows begins with none of them
 pub record Lead (A : Type 0) : Type 1 where

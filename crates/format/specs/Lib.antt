@@ -9,6 +9,7 @@ pub mod Lists
 pub mod Sized
 pub mod Runs
 pub mod Answers
+pub mod Refusal
 pub mod Write
 pub mod Read
 pub mod Count
@@ -19,4 +20,5 @@ pub mod Leads
 pub mod Told
 pub mod Loop
 pub mod Counted
+pub mod Repeats
 pub mod RoundTrip

@@ -9,8 +9,8 @@ use Rattle.format.specs.Read.{place_at, ends_at}
 use Rattle.format.specs.Count.{Adds, no_refusal, silent, adds_nil, adds_seq, adds_eq, min_assoc}
 use Rattle.format.specs.Walk.{Gone, Walked, Walking, not_found, gone}
 use Rattle.format.specs.declared.Done.{Done}
-use Rattle.format.specs.declared.Walk.{Walk}
-use Rattle.format.specs.declared.Walk.TheVariants as walks
+use Rattle.format.specs.Walk.{Walk}
+use Rattle.std.specs.Prelude.{None, Some}
 
 -- ---- how far the reading has come
 
@@ -136,12 +136,12 @@ module _ {A : Type 0} {F : Format A} {f : ℕ → A → List ℕ} {g : A → ℕ
   loop_starts h = going_none F f g w q n old s₀ h
 
   module _ {out : List ℕ} {s : Done} {p left : ℕ} (I : Going F f g w q n old s₀ out s p left) where
-    pub loop_goes_on : {new : List ℕ} {r : Walk} {p' : ℕ} {u : Done} → 0 < left → Walking F.parse (f p) g w p out s new r → r ≡ walks.Got p' u → length new ≡ length out
+    pub loop_goes_on : {new : List ℕ} {r : Walk} {p' : ℕ} {u : Done} → 0 < left → Walking F.parse (f p) g w p out s new r → r ≡ Some (p', u) → length new ≡ length out
         → Going F f g w q n old s₀ new u p' (left - 1)
     loop_goes_on {new} {r} {p'} {u} l h e k = going_more F f g I l (gone F h e) k
 
-    pub loop_stops : {new : List ℕ} {r : Walk} → 0 < left → Walking F.parse (f p) g w p out s new r → r ≡ walks.No → MembersAt F f g w q n old s₀ new walks.No
+    pub loop_stops : {new : List ℕ} {r : Walk} → 0 < left → Walking F.parse (f p) g w p out s new r → r ≡ None → MembersAt F f g w q n old s₀ new None
     loop_stops {new} {r} l h e = record { walked = rw (going_stop F f g I l (not_found h e)) refl }
 
-    pub loop_done : left ≤ 0 → MembersAt F f g w q n old s₀ out (walks.Got p s)
+    pub loop_done : left ≤ 0 → MembersAt F f g w q n old s₀ out (Some (p, s))
     loop_done l = record { walked = rw (going_done F f g I l).0 (s, rw (place_at w p I.place), I.adds) }

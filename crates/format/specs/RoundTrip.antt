@@ -5,9 +5,9 @@ use Rattle.format.specs.Parsed.{got}
 use Rattle.format.specs.Format.{Format}
 use Rattle.format.specs.Write.{Writes, told_length}
 use Rattle.format.specs.Read.{found, reading, place_of}
-use Rattle.format.specs.declared.Written.TheVariants.{Length}
+use Rattle.std.specs.Prelude.{Ok}
 
-pub written_read : {A : Type 0} (F : Format A) (zero a : A) (xs ys : List ℕ) (n : ℕ) → F.Ok a → Writes (F.print a) xs ys (Length n)
+pub written_read : {A : Type 0} (F : Format A) (zero a : A) (xs ys : List ℕ) (n : ℕ) → F.Ok a → Writes (F.print a) xs ys (Ok n)
     → reading zero ys (F.parse ys) ≡ found a n
 written_read F zero a xs ys n ok w =
     let t = told_length w refl in

@@ -9,8 +9,8 @@ use Rattle.format.specs.Read.{place_of}
 use Rattle.format.specs.Count.{silent}
 use Rattle.format.specs.Walk.{Walking, nothing_there, not_found, was_found, walks_as}
 use Rattle.format.specs.declared.Done.{Done}
-use Rattle.format.specs.declared.Walk.{Walk}
-use Rattle.format.specs.declared.Walk.TheVariants as walks
+use Rattle.format.specs.Walk.{Walk}
+use Rattle.std.specs.Prelude.{None, Some}
 
 -- what a reading leaves is the end of what it was given
 abbrev pub Leaves : {A : Type 0} → (List ℕ → Parsed A) → Type 0
@@ -41,11 +41,11 @@ module _ {A B C : Type 0} (P : List ℕ → Parsed A) (f : A → List ℕ) (g : 
 module _ {A B C : Type 0} {P : List ℕ → Parsed A} {f : A → List ℕ} {g : A → ℕ} {Q : List ℕ → Parsed B} {f' : B → List ℕ} {g' : B → ℕ} {X : List ℕ → Parsed C} {f'' : C → List ℕ} {g'' : C → ℕ}
     (J : Joins P f g Q f' g' X f'' g'') {w : List ℕ} {at : ℕ} {old : List ℕ} {s : Done} {new : List ℕ} {r : Walk} where
   -- where the first part is missing, so is the whole
-  pub first_missing : Walking P f g w at old s new r → r ≡ walks.No → Walking X f'' g'' w at old s new walks.No
+  pub first_missing : Walking P f g w at old s new r → r ≡ None → Walking X f'' g'' w at old s new None
   first_missing h e = nothing_there (rw (J.reads (drop at w), not_found h e))
 
   -- else a walk over the second part, from where the first one ended, is one over the whole
-  pub second_follows : {cur : List ℕ} {p : ℕ} {u : Done} {r' : Walk} → Walking P f g w at old s cur r → r ≡ walks.Got p u → Walking Q f' g' w p cur u new r' → Walking X f'' g'' w at old s new r'
+  pub second_follows : {cur : List ℕ} {p : ℕ} {u : Done} {r' : Walk} → Walking P f g w at old s cur r → r ≡ Some (p, u) → Walking Q f' g' w p cur u new r' → Walking X f'' g'' w at old s new r'
   second_follows {p = p} h e k =
       let q = was_found h e in
       let t : q.rest ≡ drop p w = left_at P J.ends w at q.value q.rest q.is ∙ ap (λ (n : ℕ). drop n w) q.place in

@@ -2,18 +2,22 @@
 -- place. Assumes nothing.
 use Rattle.std.specs.Prelude.{◌≡◌, refl, List, [], ◌++◌, ℕ, ◌≤◌, min, length, drop}
 use Rattle.std.proofs.Common.{sym, ◌∙◌, ap, subst, arith}
+use Rattle.std.proofs.lemmas.Option.{some_pair_parts}
 use Rattle.format.specs.Parsed.{Parsed, fail, got, map}
 use Rattle.format.specs.Format.{Format}
 use Rattle.format.specs.Read.{place_of, place_at, rest_at, drop_end}
 use Rattle.format.specs.Count.{Adds, adds_seq, adds_eq}
 use Rattle.format.specs.declared.Done.{Done}
-use Rattle.format.specs.declared.Walk.{Walk}
-use Rattle.format.specs.declared.Walk.TheVariants as walks
+use Rattle.std.specs.Prelude.{Option, None, Some}
+
+-- what a walk finds: the place behind what it read, and what is done; or nothing
+abbrev pub Walk : Type 0
+Walk = Option (ℕ × Done)
 
 -- f: what is written of a value; g: the lowest refusal that it draws
 abbrev pub Walked : {A : Type 0} → (A → List ℕ) → (A → ℕ) → List ℕ → Parsed A → List ℕ → Done → List ℕ → Walk → Type 0
-Walked f g w fail old s new r = r ≡ walks.No
-Walked f g w (got a t) old s new r = (u : Done) × (r ≡ walks.Got (place_of w t) u) × Adds (f a) (g a) old s new u
+Walked f g w fail old s new r = r ≡ None
+Walked f g w (got a t) old s new r = (u : Done) × (r ≡ Some (place_of w t, u)) × Adds (f a) (g a) old s new u
 
 -- a walk of what P reads at a place: a record, so that `search` finds it among what is known. P is a reader, since not all that is walked is a format
 pub record Walking {A : Type 0} (P : List ℕ → Parsed A) (f : A → List ℕ) (g : A → ℕ) (w : List ℕ) (at : ℕ) (old : List ℕ) (s : Done) (new : List ℕ) (r : Walk) : Type 0 where
@@ -25,13 +29,13 @@ Walks W = Walking W.parse
 -- ---- a walk with no other in it: nothing of the kind is there, nothing at all is left, or a value is there
 
 module _ {A : Type 0} {P : List ℕ → Parsed A} {f : A → List ℕ} {g : A → ℕ} {w : List ℕ} {at : ℕ} {old : List ℕ} {s : Done} {new : List ℕ} where
-  pub nothing_there : P (drop at w) ≡ fail → Walking P f g w at old s new walks.No
+  pub nothing_there : P (drop at w) ≡ fail → Walking P f g w at old s new None
   nothing_there e = record { walked = rw e refl }
 
-  pub nothing_left : length w ≤ at → P [] ≡ fail → Walking P f g w at old s new walks.No
+  pub nothing_left : length w ≤ at → P [] ≡ fail → Walking P f g w at old s new None
   nothing_left h e = nothing_there (ap P (drop_end w at h) ∙ e)
 
-  pub value_there : {a : A} {p : ℕ} {u : Done} → Adds (f a) (g a) old s new u → P (drop at w) ≡ got a (drop p w) → p ≤ length w → Walking P f g w at old s new (walks.Got p u)
+  pub value_there : {a : A} {p : ℕ} {u : Done} → Adds (f a) (g a) old s new u → P (drop at w) ≡ got a (drop p w) → p ≤ length w → Walking P f g w at old s new (Some (p, u))
   value_there {a} {p} {u} d e h = record { walked = rw e (u, rw (place_at w p h), d) }
 
 -- ---- what its answer tells
@@ -45,22 +49,21 @@ pub record Found {A : Type 0} (P : List ℕ → Parsed A) (f : A → List ℕ) (
   pub adds : Adds (f value) (g value) old s new u
 
 module _ {A : Type 0} {P : List ℕ → Parsed A} {f : A → List ℕ} {g : A → ℕ} {w : List ℕ} {at : ℕ} {old : List ℕ} {s : Done} {new : List ℕ} {r : Walk} (h : Walking P f g w at old s new r) where
-  pub not_found : r ≡ walks.No → P (drop at w) ≡ fail
+  pub not_found : r ≡ None → P (drop at w) ≡ fail
   not_found e = go (P (drop at w)) h.walked
     where
       go : (m : Parsed A) → Walked f g w m old s new r → m ≡ fail
       go fail k = refl
       go (got a t) k = let z : ◌≡◌ {A = ℕ} 0 1 = cc k.1 in absurd (omega arith)
 
-  pub was_found : {p : ℕ} {u : Done} → r ≡ walks.Got p u → Found P f g w at old s new p u
+  pub was_found : {p : ℕ} {u : Done} → r ≡ Some (p, u) → Found P f g w at old s new p u
   was_found {p} {u} e = go (P (drop at w)) refl h.walked
     where
       go : (m : Parsed A) → P (drop at w) ≡ m → Walked f g w m old s new r → Found P f g w at old s new p u
       go fail q k = let z : ◌≡◌ {A = ℕ} 0 1 = cc in absurd (omega arith)
       go (got a t) q k =
-          let x : walks.Got (place_of w t) k.0 ≡ walks.Got p u = sym k.1 ∙ e in
-          let pe : place_of w t ≡ p = cc in
-          let ue : k.0 ≡ u = cc in
+          let x : Some (place_of w t, k.0) ≡ Some (p, u) = sym k.1 ∙ e in
+          let (pe, ue) = some_pair_parts (place_of w t) p k.0 u x in
           record { value = a; rest = t; is = q; place = pe; adds = subst (λ (v : Done). Adds (f a) (g a) old s new v) ue k.2 }
 
 -- by a format: what is left is what stands from p on
@@ -71,7 +74,7 @@ pub record Gone {A : Type 0} (W : Format A) (f : A → List ℕ) (g : A → ℕ)
   pub adds : Adds (f value) (g value) old s new u
 
 pub gone : {A : Type 0} (W : Format A) {f : A → List ℕ} {g : A → ℕ} {w : List ℕ} {at : ℕ} {old : List ℕ} {s : Done} {new : List ℕ} {r : Walk} {p : ℕ} {u : Done} → Walks W f g w at old s new r
-    → r ≡ walks.Got p u → Gone W f g w at old s new p u
+    → r ≡ Some (p, u) → Gone W f g w at old s new p u
 gone W {w = w} {at} h e =
     let q = was_found h e in
     let ra = rest_at W w at q.value q.rest q.is in

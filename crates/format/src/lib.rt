@@ -1,60 +1,38 @@
 // Writing into the rest of a lent buffer, and counting what is written. The theory of formats that every item is defined by stands in specs/.
 #![tactic(auto)]
 
-ghost use Rattle.std.specs.Prelude.{◌≡◌, [], ◌∷◌, ◌+◌, min};
+mod refusal;
+
+ghost use Rattle.std.specs.Prelude.{◌≡◌, [], ◌∷◌, ◌+◌};
+ghost use Rattle.format.specs.Refusal.{number_of};
 ghost use Rattle.format.specs.Write.{Writes};
 ghost use Rattle.format.specs.Count.{Appends, counted, count_in, low_in, grown_by, lowered};
+ghost use Rattle.format.specs.Repeats.{Calls, Repeats};
+
+pub use refusal::Refusal;
 
 // What a writer answers: how many numbers it wrote at the front of what it was lent, or that they do not fit and nothing was written.
-#[derive(Clone, Copy)]
-pub enum Written {
-    Length(usize),
-    Short,
-}
+pub type Written = Result<usize, Refusal>;
 
 // The leaves: `out` is the rest of a buffer from the current end on.
-pub fn put_byte(b: u8, out: &mut [u8]) -> Written
-    ensures { Writes (b ∷ []) out.old out.new result }
+pub fn put<T: Copy>(x: T, out: &mut [T]) -> Written
+    ensures { Writes (x ∷ []) out.old out.new result }
 {
-    if out.len() < 1 {
-        return Written::Short;
+    if out.is_empty() {
+        return Err(Refusal::OutputShort);
     }
-    out[0] = b;
-    Written::Length(1)
+    out[0] = x;
+    Ok(1)
 }
 
-pub fn put_word(w: u32, out: &mut [u32]) -> Written
-    ensures { Writes (w ∷ []) out.old out.new result }
+pub fn copy<T: Copy>(from: &[T], out: &mut [T]) -> Written
+    ensures { Writes from.now out.old out.new result }
 {
-    if out.len() < 1 {
-        return Written::Short;
+    if out.len() < from.len() {
+        return Err(Refusal::OutputShort);
     }
-    out[0] = w;
-    Written::Length(1)
-}
-
-pub fn copy(b: &[u8], out: &mut [u8]) -> Written
-    ensures { Writes b.now out.old out.new result }
-{
-    if out.len() < b.len() {
-        return Written::Short;
-    }
-    out[0..b.len()].copy_from_slice(b);
-    Written::Length(b.len())
-}
-
-pub fn copy_words(w: &[u32], out: &mut [u32]) -> Written
-    ensures { Writes w.now out.old out.new result }
-{
-    if out.len() < w.len() {
-        return Written::Short;
-    }
-    let mut i = 0;
-    while i < w.len() {
-        out[i] = w[i];
-        i += 1;
-    }
-    Written::Length(i)
+    out[..from.len()].copy_from_slice(from);
+    Ok(from.len())
 }
 
 // Stands for any count above 65,536: no more than that is ever written.
@@ -66,9 +44,16 @@ const LOW_ROOM: u64 = 16;
 // Stands for none: it is above all that a text draws.
 pub const NO_REFUSAL: u32 = 9;
 
-// How much was appended to a lent buffer, and the lowest refusal drawn so far. One number, so that a walk hands it to the next in a register.
+// The count of a and b together.
+pub fn more(a: usize, b: usize) -> usize
+    ensures { result ≡ counted (a + b) }
+{
+    a.saturating_add(b).min(COUNT_PAST)
+}
+
+// How much was appended to a lent buffer, and the lowest refusal drawn so far, by its number. One number holds both, so that a walk hands it to the next in a register.
 // Of one whose refusal is above NO_REFUSAL nothing is promised (`Has`, specs/Count.antt), and no walk makes one.
-#[derive(Clone, Copy)]
+#[derive(Clone, Copy, Debug, PartialEq, Eq)]
 pub struct Done {
     pub v: u64,
 }
@@ -80,103 +65,74 @@ impl Done {
     {
         Done { v: low as u64 }
     }
-}
 
-// What a walk finds: nothing; or the place behind what it read, and what is done.
-#[derive(Clone, Copy)]
-pub enum Walk {
-    No,
-    Got(usize, Done),
-}
-
-pub fn least(a: usize, b: usize) -> usize
-    ensures { result ≡ min a b }
-{
-    if a < b { a } else { b }
-}
-
-// The count of a and b together.
-pub fn more(a: usize, b: usize) -> usize
-    ensures { result ≡ counted (a + b) }
-{
-    if COUNT_PAST <= a {
-        return COUNT_PAST;
+    pub fn count(self) -> usize
+        ensures { result ≡ count_in self }
+    {
+        (self.v / LOW_ROOM) as usize
     }
-    if COUNT_PAST <= b {
-        return COUNT_PAST;
+
+    pub fn low(self) -> u32
+        ensures { result ≡ low_in self }
+    {
+        (self.v % LOW_ROOM) as u32
     }
-    least(a + b, COUNT_PAST)
-}
 
-pub fn count(s: Done) -> usize
-    ensures { result ≡ count_in s }
-{
-    (s.v / LOW_ROOM) as usize
-}
-
-pub fn low(s: Done) -> u32
-    ensures { result ≡ low_in s }
-{
-    (s.v % LOW_ROOM) as u32
-}
-
-// k more were appended.
-pub fn grown(s: Done, k: usize) -> Done
-    ensures { result.v ≡ grown_by s k }
-{
-    let v = s.v;
-    if more((v / LOW_ROOM) as usize, k) < COUNT_PAST {
-        return Done {
-            v: v + LOW_ROOM * k as u64,
-        };
+    // k more were appended.
+    pub fn grown(self, k: usize) -> Done
+        ensures { result.v ≡ grown_by self k }
+    {
+        Done {
+            v: LOW_ROOM * more(self.count(), k) as u64 + self.v % LOW_ROOM,
+        }
     }
-    Done {
-        v: LOW_ROOM * COUNT_PAST as u64 + v % LOW_ROOM,
+
+    // A refusal is drawn.
+    pub fn lower(self, r: Refusal) -> Done
+        ensures { result ≡ lowered self (number_of r) }
+    {
+        let low = self.v % LOW_ROOM;
+        Done {
+            v: self.v - low + low.min(r.number() as u64),
+        }
     }
 }
 
-// A refusal is drawn.
-pub fn lower(s: Done, k: u32) -> Done
-    ensures { result ≡ lowered s k }
-{
-    let v = s.v;
-    if (k as u64) < v % LOW_ROOM {
-        return Done {
-            v: v - v % LOW_ROOM + k as u64,
-        };
-    }
-    Done { v: v }
-}
+// What a walk finds: the place behind what it read, and what is done; or nothing.
+pub type Walk = Option<(usize, Done)>;
 
 // The appenders carry the count: each lends its leaf the part from the current end on, which writes what there is room for, and answers as if there were room for all.
-pub fn append_byte(b: u8, out: &mut [u8], s: Done) -> Done
-    ensures { Appends (b ∷ []) out.old s out.new result }
+pub fn append<T: Copy>(x: T, out: &mut [T], s: Done) -> Done
+    ensures { Appends (x ∷ []) out.old s out.new result }
 {
-    let at = least(count(s), out.len());
-    put_byte(b, &mut out[at..]);
-    grown(s, 1)
+    let at = s.count().min(out.len());
+    let _ = put(x, &mut out[at..]);
+    s.grown(1)
 }
 
-pub fn append_word(w: u32, out: &mut [u32], s: Done) -> Done
-    ensures { Appends (w ∷ []) out.old s out.new result }
+pub fn append_all<T: Copy>(from: &[T], out: &mut [T], s: Done) -> Done
+    ensures { Appends from.now out.old s out.new result }
 {
-    let at = least(count(s), out.len());
-    put_word(w, &mut out[at..]);
-    grown(s, 1)
+    let at = s.count().min(out.len());
+    let _ = copy(from, &mut out[at..]);
+    s.grown(from.len())
 }
 
-pub fn append_run(b: &[u8], out: &mut [u8], s: Done) -> Done
-    ensures { Appends b.now out.old s out.new result }
+// n walks, each from where the one before ended, until one finds nothing.
+pub fn walk_members<T, F: Fn(usize, &mut [T], Done) -> Walk>(
+    n: usize,
+    at: usize,
+    out: &mut [T],
+    s: Done,
+    walk: F,
+) -> Walk
+    requires { F.IsAlwaysCallable walk }
+    ensures { Repeats (Calls F.Fn walk) n at out.old s out.new result }
 {
-    let at = least(count(s), out.len());
-    copy(b, &mut out[at..]);
-    grown(s, b.len())
-}
-
-pub fn append_words(w: &[u32], out: &mut [u32], s: Done) -> Done
-    ensures { Appends w.now out.old s out.new result }
-{
-    let at = least(count(s), out.len());
-    copy_words(w, &mut out[at..]);
-    grown(s, w.len())
+    let mut p = at;
+    let mut t = s;
+    for _ in 0..n {
+        (p, t) = walk(p, out, t)?;
+    }
+    Some((p, t))
 }

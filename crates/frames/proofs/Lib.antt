@@ -1,4 +1,3 @@
 -- What the proofs of `frames` share.
 pub mod Placing
-pub mod Finding
 pub mod Walking

@@ -6,17 +6,19 @@ use Prim.Native.Nat.{ℕ, ◌+◌, ◌-◌, ◌≤◌, ◌<◌, min}
 use native.Mathlib.Omega.{arith}
 use mir.Syntax.{w8}
 use mir.Val.{Fits}
-use lib.Dec.{eqb, leb}
+use lib.Dec.{leb}
 use lib.ListN.{length, take, drop, get_or, length-append, length-drop}
-use borrow.Author.Tests.{lt-ltb, le-leb, lt-leb, ne_eqb}
-use lib.Seq.{drop-drop, take_at}
-use mathlib.Core.Logic.{⊎_elim}
+use borrow.Author.Tests.{lt-ltb, le-leb, lt-leb}
+use lib.Seq.{drop-drop, take_at, take_all}
+use mathlib.Core.Logic.{◌⊎◌, ⊎_elim}
 use Rattle.format.specs.Write.{fits_or}
 use Rattle.format.specs.Parsed.{Parsed, fail, got}
 use Rattle.format.specs.Read.{drop_more, place_of, rest_at}
 use Rattle.frames.specs.Frames.{Frame, frame, frame_long, value_of, item_most}
-use Rattle.frames.specs.Ids.{sections, among}
-use Rattle.frames.specs.declared.FrameAt.TheVariants.{Is, No}
+use Rattle.frames.specs.Ids.{sections, among, among_each}
+use Rattle.std.specs.Prelude.{None, Some, slice_range}
+use Rattle.std.proofs.lemmas.List.{get_or-drop}
+use Rattle.std.proofs.lemmas.Option.{some_pair_parts}
 use Rattle.frames.specs.Place.{placed, frame_at}
 
 -- five bytes, and what is left
@@ -45,90 +47,74 @@ frame_cut s h = go (frame.parse s) refl
         let l : length s ≡ length (frame.print f) + length t = ap length (frame.only s f t e).1 ∙ length-append (frame.print f) t in
         absurd (omega (arith, frame_long f))
 
-pub section_last : {i : ℕ} → (i ≡ 1 → ⊥) → (i ≡ 2 → ⊥) → (i ≡ 4 → ⊥) → (i ≡ 9 → ⊥) → eqb i 11 ≡ among sections i
-section_last {i} a b c d = rw (ne_eqb i 1 a, ne_eqb i 2 b, ne_eqb i 4 c, ne_eqb i 9 d) (last (eqb i 11))
-  where
-    last : (t : Bool) → t ≡ cond t true false
-    last true = refl
-    last false = refl
-
-no_parse : (s : List ℕ) (at : ℕ) → frame.parse (drop at s) ≡ fail → No ≡ frame_at s at
+no_parse : (s : List ℕ) (at : ℕ) → frame.parse (drop at s) ≡ fail → None ≡ frame_at s at
 unfolding frame_at
 no_parse s at e = sym (ap (placed s) e)
 
-no_head : (s : List ℕ) (at : ℕ) → length s < at + 5 → No ≡ frame_at s at
+no_head : (s : List ℕ) (at : ℕ) → length s < at + 5 → None ≡ frame_at s at
 no_head s at h = no_parse s at (frame_cut (drop at s) (omega (arith, length-drop at s)))
 
-pub none_past : (s : List ℕ) (at : ℕ) → length s < at → No ≡ frame_at s at
+pub none_past : (s : List ℕ) (at : ℕ) → (length s < at) ⊎ (length s < length s) → None ≡ frame_at s at
 none_past s at h = no_head s at (omega arith)
 
-pub none_short : (s : List ℕ) (at : ℕ) → at ≤ length s → length s - at < 5 → No ≡ frame_at s at
-none_short s at h k = no_head s at (omega arith)
+-- ---- the bytes u from the place on
 
-module _ (s : List ℕ) (at : ℕ) (before : at ≤ length s) (some : 5 ≤ length s - at) (each : (k : ℕ) → Fits w8 (get_or s k 0)) where
-  h : at + 5 ≤ length s
-  h = omega arith
+module _ (s : List ℕ) (at : ℕ) {u : List ℕ} (from : u ≡ slice_range s at (length s)) (long : length u + at ≡ length s) where
+  same : u ≡ drop at s
+  same = from ∙ take_all (length s - at) (drop at s) (omega (arith, length-drop at s))
 
-  bytes : (k : ℕ) → get_or s k 0 < 256
-  bytes k = let f = each k in omega arith
+  pub none_short : length u < 5 → None ≡ frame_at s at
+  none_short h = no_head s at (omega arith)
 
-  -- the id and the length that stand there
-  abbrev id_at : ℕ
-  id_at = get_or s at 0
+  module _ (h : 5 ≤ length u) (each : (k : ℕ) → Fits w8 (get_or s k 0)) where
+    byte : (k : ℕ) → get_or u k 0 < 256
+    byte k = let f = each (at + k) in rw (same, get_or-drop at s k 0) (omega arith)
 
-  abbrev size_at : ℕ
-  size_at = value_of (get_or s (at + 1) 0, (get_or s (at + 2) 0, (get_or s (at + 3) 0, get_or s (at + 4) 0)))
+    -- the id and the length that stand there
+    abbrev id_at : ℕ
+    id_at = get_or u 0 0
 
-  five : drop at s ≡ id_at ∷ get_or s (at + 1) 0 ∷ get_or s (at + 2) 0 ∷ get_or s (at + 3) 0 ∷ get_or s (at + 4) 0 ∷ drop (at + 5) s
-  five =
-      let e : at + 1 + 1 ≡ at + 2 = omega arith in
-      let f : at + 2 + 1 ≡ at + 3 = omega arith in
-      let g : at + 3 + 1 ≡ at + 4 = omega arith in
-      let k : at + 4 + 1 ≡ at + 5 = omega arith in
-      rw (
-        drop_more s at (omega arith),
-        drop_more s (at + 1) (omega arith),
-        e,
-        drop_more s (at + 2) (omega arith),
-        f,
-        drop_more s (at + 3) (omega arith),
-        g,
-        drop_more s (at + 4) (omega arith),
-        k,
-      )
+    abbrev size_at : ℕ
+    size_at = value_of (get_or u 1 0, (get_or u 2 0, (get_or u 3 0, get_or u 4 0)))
 
-  parsed : frame.parse (drop at s) ≡ judge id_at size_at (drop (at + 5) s)
-  parsed =
-      ap frame.parse five
-      ∙ frame_head id_at (get_or s (at + 1) 0) (get_or s (at + 2) 0) (get_or s (at + 3) 0) (get_or s (at + 4) 0) (drop (at + 5) s)
-      (bytes at) (bytes (at + 1)) (bytes (at + 2)) (bytes (at + 3)) (bytes (at + 4))
+    abbrev rest : List ℕ
+    rest = drop 5 u
 
-  left : length (drop (at + 5) s) ≡ length s - at - 5
-  left = length-drop (at + 5) s ∙ omega arith
+    five : u ≡ id_at ∷ get_or u 1 0 ∷ get_or u 2 0 ∷ get_or u 3 0 ∷ get_or u 4 0 ∷ rest
+    five = drop_more u 0 (omega arith) ∙ rw (drop_more u 1 (omega arith), drop_more u 2 (omega arith), drop_more u 3 (omega arith), drop_more u 4 (omega arith))
 
-  module _ {t : Bool} (q : t ≡ among sections id_at) where
-    pub no_section : t ≡ false → No ≡ frame_at s at
-    no_section e = no_parse s at (parsed ∙ rw (sym q ∙ e))
+    parsed : frame.parse (drop at s) ≡ judge id_at size_at rest
+    parsed =
+        ap frame.parse (sym same ∙ five)
+        ∙ frame_head id_at (get_or u 1 0) (get_or u 2 0) (get_or u 3 0) (get_or u 4 0) rest (byte 0) (byte 1) (byte 2) (byte 3) (byte 4)
 
-    module _ (e : t ≡ true) {n l : ℕ} (z : n ≡ size_at) (m : l ≡ min item_most (length s - at - 5)) where
-      listed : among sections id_at ≡ true
-      listed = sym q ∙ e
+    left : length rest ≡ length u - 5
+    left = length-drop 5 u
 
-      pub is_at : n ≤ l → Is id_at (at + 5 + n) ≡ frame_at s at
-      unfolding frame_at
-      is_at k =
-          let r = drop (at + 5) s in
-          let room : n ≤ length r = omega (arith, left) in
-          let o : length s - length (drop n r) ≡ at + 5 + n = omega (arith, left, length-drop n r) in
-          let p : frame.parse (drop at s) ≡ got (record { id = id_at; item = take n r }) (drop n r) =
-          parsed ∙ rw (← z, listed, le-leb n item_most (omega arith), le-leb n (length r) room) in
-          sym (ap (placed s) p ∙ ap (Is id_at) o)
+    module _ {t : Bool} (q : t ≡ among sections id_at) where
+      pub no_section : t ≡ false → None ≡ frame_at s at
+      no_section e = no_parse s at (parsed ∙ rw (sym q ∙ e))
 
-      pub no_size : l < n → No ≡ frame_at s at
-      no_size k = no_parse s at (parsed ∙ rw (← z) (rw listed (⊎_elim
-          (λ u. rw (le-leb n item_most u, lt-leb n (length (drop (at + 5) s)) (omega (arith, left))))
-          (λ u. rw (lt-leb n item_most u))
-          (fits_or n item_most))))
+      module _ (e : t ≡ true) {n l : ℕ} (z : n ≡ size_at) (m : l ≡ min item_most (length (take (length u - 5) rest))) where
+        listed : among sections id_at ≡ true
+        listed = sym q ∙ e
+
+        most : l ≡ min item_most (length rest)
+        most = m ∙ ap (λ (r : List ℕ). min item_most (length r)) (take_all (length u - 5) rest (omega (arith, left)))
+
+        pub is_at : n ≤ l → Some (id_at, at + 5 + n) ≡ frame_at s at
+        unfolding frame_at
+        is_at k =
+            let o : length s - length (drop n rest) ≡ at + 5 + n = omega (arith, left, most, length-drop n rest) in
+            let p : frame.parse (drop at s) ≡ got (record { id = id_at; item = take n rest }) (drop n rest) =
+            parsed ∙ rw (← z, listed, le-leb n item_most (omega (arith, most)), le-leb n (length rest) (omega (arith, most))) in
+            sym (ap (placed s) p ∙ ap (λ (e : ℕ). Some (id_at, e)) o)
+
+        pub no_size : l < n → None ≡ frame_at s at
+        no_size k = no_parse s at (parsed ∙ rw (← z) (rw listed (⊎_elim
+            (λ u. rw (le-leb n item_most u, lt-leb n (length rest) (omega (arith, most))))
+            (λ u. rw (lt-leb n item_most u))
+            (fits_or n item_most))))
 
 -- ---- what is found at a place
 
@@ -145,17 +131,16 @@ pub record Begins (s : List ℕ) (at i end : ℕ) : Type 0 where
 frame_rest : (f : Frame) (r : List ℕ) → drop 5 (frame.print f ++ r) ≡ f.item ++ r
 frame_rest f r = refl
 
-pub frame_found : (s : List ℕ) (at i end : ℕ) → Is i end ≡ frame_at s at → Begins s at i end
+pub frame_found : (s : List ℕ) (at i end : ℕ) → Some (i, end) ≡ frame_at s at → Begins s at i end
 unfolding frame_at
 frame_found s at i end e = go (frame.parse (drop at s)) refl e
   where
-    go : (m : Parsed Frame) → frame.parse (drop at s) ≡ m → Is i end ≡ placed s m → Begins s at i end
+    go : (m : Parsed Frame) → frame.parse (drop at s) ≡ m → Some (i, end) ≡ placed s m → Begins s at i end
     go fail p q = let z : ◌≡◌ {A = ℕ} 0 1 = cc in absurd (omega arith)
     go (got f r) p q =
         let o = frame.only (drop at s) f r p in
         let (c, w) = rest_at frame s at f r p in
-        let j : i ≡ f.id = cc in
-        let k : end ≡ place_of s r = cc in
+        let (j, k) = some_pair_parts i f.id end (place_of s r) q in
         let l : length s - at ≡ length f.item + 5 + length r = sym (length-drop at s) ∙ ap length o.1 ∙ length-append (frame.print f) r ∙ ap (λ (n : ℕ). n + length r) (frame_long f) in
         let b : drop (at + 5) s ≡ f.item ++ r = sym (drop-drop 5 at s) ∙ ap (drop 5) o.1 ∙ frame_rest f r in
         let n : end - (at + 5) ≡ length f.item = omega arith in
@@ -169,10 +154,17 @@ frame_found s at i end e = go (frame.parse (drop at s)) refl e
           item = sym (ap (take (end - (at + 5))) b ∙ take_at f.item r (end - (at + 5)) (sym n));
         }
 
-pub none_found : (s : List ℕ) (at : ℕ) → No ≡ frame_at s at → frame.parse (drop at s) ≡ fail
+-- a section's id is below 16
+pub begins_below : {s : List ℕ} {at i end : ℕ} → Begins s at i end → i < 16
+begins_below b = rw (← b.is) (among_each (λ i. i < 16) sections b.here.id (omega arith, (omega arith, (omega arith, (omega arith, (omega arith, tt))))) b.ok.0.1)
+
+pub frame_within : (s : List ℕ) (at : ℕ) {i end : ℕ} → Some (i, end) ≡ frame_at s at → (i < 16) × (at + 5 ≤ end) × (end ≤ length s)
+frame_within s at {i} {end} e = let b = frame_found s at i end e in (begins_below b, omega (arith, b.long), b.within)
+
+pub none_found : (s : List ℕ) (at : ℕ) → None ≡ frame_at s at → frame.parse (drop at s) ≡ fail
 unfolding frame_at
 none_found s at e = go (frame.parse (drop at s)) e
   where
-    go : (m : Parsed Frame) → No ≡ placed s m → m ≡ fail
+    go : (m : Parsed Frame) → None ≡ placed s m → m ≡ fail
     go fail q = refl
     go (got f r) q = let z : ◌≡◌ {A = ℕ} 0 1 = cc in absurd (omega arith)

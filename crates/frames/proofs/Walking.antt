@@ -3,23 +3,23 @@ use mathlib.Core.Path.{◌≡◌, refl, sym, ap, ap₂, ◌∙◌}
 use mathlib.Core.Bool.{Bool, true, false, cond}
 use mathlib.Core.Option.{Option, none, some, map, none-ne-some}
 use mathlib.Core.List.{List, [], ◌∷◌, ◌++◌, append-nil, append_assoc}
-use Prim.Native.Nat.{ℕ, ◌+◌, ◌-◌, ◌≤◌, ◌<◌, ◌^◌}
+use Prim.Native.Nat.{ℕ, ◌+◌, ◌≤◌, ◌<◌, ◌^◌}
 use native.Mathlib.Omega.{arith}
-use mir.Syntax.{w64}
-use mir.Val.{Fits}
 use lib.Dec.{eqb}
-use lib.ListN.{length, drop, get_or, set, length-append, length-drop}
+use lib.ListN.{length, drop, set, length-append, length-drop}
 use borrow.Author.Tests.{ne_eqb, eq-eqb}
 use Rattle.format.specs.Runs.{run, run_more_lem, run_stop, run_none}
 use Rattle.format.specs.Lists.{prints, prints_more}
 use Rattle.format.specs.Read.{drop_end}
 use Rattle.frames.specs.Frames.{Frame, frame, frame_some, frame_long}
 use Rattle.frames.specs.Place.{frame_at}
-use Rattle.frames.specs.declared.FrameAt.{FrameAt}
-use Rattle.frames.specs.declared.FrameAt.TheVariants.{Is, No}
-use Rattle.frames.specs.Tally.{items_of, joined, items_few, table, counts_of, totals_of, tally_of, table_at, table_set}
-use Rattle.frames.proofs.Placing.{Begins, none_found}
-use Rattle.frames.proofs.Finding.{frame_begins, id_below, begins_below}
+use Rattle.std.specs.Prelude.{None, Some, slice_range}
+use Rattle.std.specs.Borrow.{Bor}
+use Rattle.frames.specs.Steps.{frame_steps}
+use Rattle.frames.specs.declared.Frames.{Frames}
+use Rattle.frames.specs.declared.Items.{Items}
+use Rattle.frames.specs.Tally.{items_of, joined, items_few, table, one_more, tally_for, Tallies, tallies_of, tally_at, tally_of, tally_is, table_set}
+use Rattle.frames.proofs.Placing.{Begins, none_found, frame_found}
 
 -- ---- the frames before a place
 
@@ -61,7 +61,7 @@ module _ {s : List ℕ} {fs : List Frame} {at : ℕ} (w : Walked s fs at) where
       go none q = absurd (none-ne-some all q)
       go (some gs) q = (gs, cc)
 
-  pub walk_stop : at < length s → No ≡ frame_at s at → run frame s ≡ none
+  pub walk_stop : at < length s → None ≡ frame_at s at → run frame s ≡ none
   walk_stop h e = w.rest ∙ ap (map (λ (gs : List Frame). fs ++ gs)) (run_stop frame frame_some (drop at s) (omega (arith, length-drop at s)) (none_found s at e))
 
   pub walk_done : length s ≤ at → run frame s ≡ some fs
@@ -70,6 +70,26 @@ module _ {s : List ℕ} {fs : List Frame} {at : ℕ} (w : Walked s fs at) where
       ∙ ap (λ (r : List ℕ). map (λ (gs : List Frame). fs ++ gs) (run frame r)) (drop_end s at h)
       ∙ ap (map (λ (gs : List Frame). fs ++ gs)) (run_none frame frame_some)
       ∙ ap some (append-nil fs)
+
+-- ---- a step of a walk
+
+-- it found a frame, and its item
+pub record Step (s : List ℕ) (f : Frames) (x : ℕ × Bor (List ℕ)) (g : Frames) : Type 0 where
+  pub found : Begins s f.at x.0 g.at
+  pub item : x.1.now ≡ found.here.item
+  pub bytes : g.bytes.now ≡ s
+
+pub step_some : {s : List ℕ} {f : Frames} → f.bytes.now ≡ s → (x : ℕ × Bor (List ℕ)) {g : Frames} → frame_steps f (Some x) g → Step s f x g
+step_some {s} {f} e x {g} step =
+    let b = frame_found s f.at x.0 g.at (step.0 ∙ ap (λ (b : List ℕ). frame_at b f.at) e) in
+    record {
+      found = b;
+      item = step.4 ∙ ap (λ (b : List ℕ). slice_range b (f.at + 5) g.at) e ∙ sym b.item;
+      bytes = ap (λ (l : Bor (List ℕ)). l.now) step.5 ∙ e;
+    }
+
+pub step_none : {s : List ℕ} {f : Frames} → f.bytes.now ≡ s → {g : Frames} → frame_steps f None g → (None ≡ frame_at s f.at) × (g.at ≡ f.at)
+step_none {s} {f} e step = (step.0 ∙ ap (λ (b : List ℕ). frame_at b f.at) e, ap (λ (x : Frames). x.at) step.1)
 
 -- ---- one frame more, of a section and of the others
 
@@ -87,65 +107,64 @@ items_one i fs f e = items_append i fs (f ∷ []) ∙ rw (eq-eqb f.id i e)
 pub items_other : (i : ℕ) (fs : List Frame) (f : Frame) → (f.id ≡ i → ⊥) → items_of i (fs ++ (f ∷ [])) ≡ items_of i fs
 items_other i fs f h = items_append i fs (f ∷ []) ∙ rw (ne_eqb f.id i h) (append-nil (items_of i fs))
 
--- a table of numbers of each section's items, where an item adds n
-table_more : (m : List (List ℕ) → ℕ) (fs : List Frame) (f : Frame) (i n : ℕ) → f.id ≡ i → i < 16 → m (items_of i fs ++ (f.item ∷ [])) ≡ m (items_of i fs) + n
-    → {l : List ℕ} → l ≡ table 16 (λ j. m (items_of j fs)) → set l i (get_or l i 0 + n) ≡ table 16 (λ j. m (items_of j (fs ++ (f ∷ []))))
-table_more m fs f i n e h a {l} p =
-    let q : get_or l i 0 ≡ m (items_of i fs) = ap (λ (k : List ℕ). get_or k i 0) p ∙ table_at 16 (λ j. m (items_of j fs)) i h in
-    let v : get_or l i 0 + n ≡ m (items_of i (fs ++ (f ∷ []))) = ap (λ (k : ℕ). k + n) q ∙ sym a ∙ ap m (sym (items_one i fs f e)) in
-    ap (λ (k : List ℕ). set k i (get_or l i 0 + n)) p
-    ∙ table_set 16 (λ j. m (items_of j fs)) (λ j. m (items_of j (fs ++ (f ∷ [])))) i (get_or l i 0 + n) v
-    (λ j d. ap m (sym (items_other j fs f (λ q. d (sym q ∙ e)))))
-
 -- ---- a tally
 
--- the frames before a place, tallied
-pub record Tallied (s counts totals : List ℕ) (at : ℕ) : Type 0 where
+tally_more_lem : (fs : List Frame) (f : Frame) (i k : ℕ) → f.id ≡ i → length f.item ≡ k → tally_for (fs ++ (f ∷ [])) i ≡ one_more (tally_for fs i) k
+tally_more_lem fs f i k e l =
+    let is = items_of i fs in
+    let n : length (joined (is ++ (f.item ∷ []))) ≡ length (joined is) + k = ap length (prints_more (λ b. b) is f.item) ∙ length-append (joined is) f.item ∙ omega arith in
+    ap (λ (l : List (List ℕ)). record { count = length l; total = length (joined l) }) (items_one i fs f e)
+    ∙ ap₂ (λ (x y : ℕ). record { count = x; total = y }) (length-append is (f.item ∷ [])) n
+
+-- the frames before the place of a walk, tallied
+pub record Tallied (s : List ℕ) (t : Tallies) (f : Frames) : Type 0 where
+  pub bytes : f.bytes.now ≡ s
   pub past : List Frame
-  pub walk : Walked s past at
-  pub count : counts ≡ counts_of past
-  pub total : totals ≡ totals_of past
+  pub walk : Walked s past f.at
+  pub is : t ≡ tallies_of past
 
-pub tally_none : (s : List ℕ) → Tallied s (table 16 (λ i. 0)) (table 16 (λ i. 0)) 0
-tally_none s = record { past = []; walk = walk_none s; count = refl; total = refl }
+pub tally_none : {s : List ℕ} {f : Frames} → (f.bytes.now ≡ s) × (f.at ≡ 0) → Tallied s (table 16 (λ i. record { count = 0; total = 0 })) f
+tally_none {s} (e, z) = record { bytes = e; past = []; walk = rw z (walk_none s); is = refl }
 
-module _ {s counts totals : List ℕ} {at : ℕ} (t : Tallied s counts totals at) where
-  -- what stands in the arrays is no more than the place
-  pub tally_few : (i : ℕ) → i < 16 → get_or counts i 0 + get_or totals i 0 ≤ at
-  tally_few i h =
-      let a : get_or counts i 0 ≡ length (items_of i t.past) = ap (λ (l : List ℕ). get_or l i 0) t.count ∙ table_at 16 (λ j. length (items_of j t.past)) i h in
-      let b : get_or totals i 0 ≡ length (joined (items_of i t.past)) = ap (λ (l : List ℕ). get_or l i 0) t.total ∙ table_at 16 (λ j. length (joined (items_of j t.past))) i h in
-      omega (arith, items_few i t.past, t.walk.long)
+module _ {s : List ℕ} {t : Tallies} {f : Frames} (w : Tallied s t f) where
+  tally_is_lem : (i : ℕ) → i < 16 → tally_at t i ≡ tally_for w.past i
+  tally_is_lem i h = ap (λ (l : Tallies). tally_at l i) w.is ∙ tally_is w.past i h
 
-  module _ {i end : ℕ} {r : FrameAt} (q : r ≡ Is i end) (e : r ≡ frame_at s at) (fits : length s < 2 ^ 63) where
-    few : get_or counts i 0 + get_or totals i 0 ≤ at
-    few = tally_few i (id_below q s at e)
+  -- what stands in it is no more than the place
+  tally_few : (i : ℕ) → i < 16 → (tally_at t i).count + (tally_at t i).total ≤ f.at
+  tally_few i h = rw (tally_is_lem i h) (omega (arith, items_few i w.past, w.walk.long))
 
-    pub count_grows : Fits w64 (get_or counts i 0 + 1)
-    count_grows = record { fits = omega (arith, few, (frame_begins q s at e).long, (frame_begins q s at e).within) }
+  -- one frame more
+  module _ (x : ℕ × Bor (List ℕ)) {g : Frames} (step : frame_steps f (Some x) g) where
+    one : Step s f x g
+    one = step_some w.bytes x step
 
-    pub total_grows : Fits w64 (get_or totals i 0 + (end - at - 5))
-    total_grows = record { fits = omega (arith, few, (frame_begins q s at e).long, (frame_begins q s at e).within) }
+    pub item_fits : length s < 2 ^ 63 → ((tally_at t x.0).count + 1 < 2 ^ 64) × ((tally_at t x.0).total + length x.1.now < 2 ^ 64)
+    item_fits fits =
+        let b = one.found in
+        let few = tally_few x.0 step.1 in
+        (omega (arith, few, b.long, b.within), omega (arith, few, ap length one.item, b.long, b.within))
 
-  grows : at < length s → {i end : ℕ} → Begins s at i end
-      → Tallied s (set counts i (get_or counts i 0 + 1)) (set totals i (get_or totals i 0 + (end - at - 5))) end
-  grows h {i} {end} b =
-      let more : length (joined (items_of i t.past ++ (b.here.item ∷ []))) ≡ length (joined (items_of i t.past)) + (end - at - 5) =
-      ap length (prints_more (λ l. l) (items_of i t.past) b.here.item) ∙ length-append (joined (items_of i t.past)) b.here.item ∙ omega (arith, b.long) in
-      record {
-        past = t.past ++ (b.here ∷ []);
-        walk = walk_more t.walk h b;
-        count = table_more (λ l. length l) t.past b.here i 1 b.is (begins_below b) (length-append (items_of i t.past) (b.here.item ∷ [])) t.count;
-        total = table_more (λ l. length (joined l)) t.past b.here i (end - at - 5) b.is (begins_below b) more t.total;
-      }
+    pub tally_more : {y : Items} → y ≡ one_more (tally_at t x.0) (length x.1.now) → Tallied s (set t x.0 y) g
+    tally_more {y} e =
+        let b = one.found in
+        let v : y ≡ tally_for (w.past ++ (b.here ∷ [])) x.0 =
+        e ∙ ap (λ (z : Items). one_more z (length x.1.now)) (tally_is_lem x.0 step.1) ∙ sym (tally_more_lem w.past b.here x.0 (length x.1.now) b.is (sym (ap length one.item))) in
+        record {
+          bytes = one.bytes;
+          past = w.past ++ (b.here ∷ []);
+          walk = walk_more w.walk (omega (arith, b.long, b.within)) b;
+          is = ap (λ (l : Tallies). set l x.0 y) w.is
+              ∙ table_set 16 (tally_for w.past) (tally_for (w.past ++ (b.here ∷ []))) x.0 y v
+              (λ j d. ap (λ (l : List (List ℕ)). record { count = length l; total = length (joined l) }) (sym (items_other j w.past b.here (λ q. d (sym q ∙ b.is)))));
+        }
 
-  pub tally_more : at < length s → {i end : ℕ} {r : FrameAt} → r ≡ Is i end → r ≡ frame_at s at
-      → Tallied s (set counts i (get_or counts i 0 + 1)) (set totals i (get_or totals i 0 + (end - at - 5))) end
-  tally_more h q e = grows h (frame_begins q s at e)
+  -- and no more
+  module _ {g : Frames} (step : frame_steps f None g) where
+    pub tally_stop : g.at < length s → None ≡ tally_of (run frame s)
+    unfolding tally_of
+    tally_stop h = let (e, k) = step_none w.bytes step in rw (walk_stop w.walk (omega arith) e)
 
-  pub tally_stop : at < length s → {r : FrameAt} → r ≡ frame_at s at → r ≡ No → tally_of none ≡ tally_of (run frame s)
-  tally_stop h e q = sym (ap tally_of (walk_stop t.walk h (sym q ∙ e)))
-
-  pub tally_done : length s ≤ at → record { are = true; counts = counts; totals = totals } ≡ tally_of (run frame s)
-  unfolding tally_of
-  tally_done h = rw (walk_done t.walk h, t.count, t.total)
+    pub tally_done : length s ≤ g.at → Some t ≡ tally_of (run frame s)
+    unfolding tally_of
+    tally_done h = let (e, k) = step_none w.bytes step in rw (walk_done w.walk (omega arith), w.is)

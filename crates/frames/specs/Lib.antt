@@ -4,6 +4,7 @@ pub mod Frames
 pub mod Builder
 pub mod Append
 pub mod Place
+pub mod Steps
 pub mod Tally
 pub mod Sums
 pub mod Calls

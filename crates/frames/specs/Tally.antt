@@ -1,13 +1,13 @@
 -- What a walk over frames finds (document 01, Store and module): how many items each section has, and how many bytes they have. Assumes nothing.
-use Rattle.std.specs.Prelude.{◌≡◌, refl, Bool, true, false, cond, List, [], ◌∷◌, ◌++◌, ℕ, zero, suc, ◌+◌, ◌≤◌, ◌<◌, eqb, set}
+use Rattle.std.specs.Prelude.{Option, None, Some, ◌≡◌, refl, Bool, true, false, cond, List, [], ◌∷◌, ◌++◌, ℕ, zero, suc, ◌+◌, ◌≤◌, ◌<◌, eqb, set}
 use Rattle.std.proofs.Common.{sym, ap, ap₂, ◌∙◌, true≢false, arith, length-append, eqb-true}
-use Rattle.std.proofs.Math.Option.{Option, none, some}
+use Rattle.std.proofs.Math.Option as M
 use Rattle.std.proofs.Math.ListN.{length, get_or}
 use Rattle.format.specs.Lists.{prints, All}
 use Rattle.format.specs.Runs.{run, run_only}
-use Rattle.frames.specs.Frames.{Frame, frame, frame_long, held, frames_of}
+use Rattle.frames.specs.Frames.{Frame, frame, frame_long, no_frames, held, frames_of}
 use Rattle.frames.specs.Ids.{sections, among}
-use Rattle.frames.specs.declared.Tallies.{Tallies}
+use Rattle.frames.specs.declared.Items.{Items}
 
 -- a section's items, in order of adding
 abbrev pub items_of : ℕ → List Frame → List (List ℕ)
@@ -22,22 +22,33 @@ joined = prints (λ b. b)
 abbrev pub item_bytes : ℕ → List ℕ → List ℕ
 item_bytes i s = joined (items_of i (frames_of s))
 
--- f 0, f 1 and so on, n numbers
-unfoldable pub table : ℕ → (ℕ → ℕ) → List ℕ
+-- f 0, f 1 and so on, n of them
+unfoldable pub table : {A : Type 0} → ℕ → (ℕ → A) → List A
 table zero f = []
 table (suc n) f = f 0 ∷ table n (λ i. f (suc i))
 
--- by the id of a section, of which there are fewer than 16: how many items, and how many bytes they have
-abbrev pub counts_of : List Frame → List ℕ
-counts_of fs = table 16 (λ i. length (items_of i fs))
+-- a section's: how many items, and how many bytes they have
+abbrev pub tally_for : List Frame → ℕ → Items
+tally_for fs i = record { count = length (items_of i fs); total = length (joined (items_of i fs)) }
 
-abbrev pub totals_of : List Frame → List ℕ
-totals_of fs = table 16 (λ i. length (joined (items_of i fs)))
+-- one more, of n bytes
+abbrev pub one_more : Items → ℕ → Items
+one_more x n = record { count = x.count + 1; total = x.total + n }
 
--- 0 for every number where there are no frames
-unfoldable pub tally_of : Option (List Frame) → Tallies
-tally_of none = record { are = false; counts = table 16 (λ i. 0); totals = table 16 (λ i. 0) }
-tally_of (some fs) = record { are = true; counts = counts_of fs; totals = totals_of fs }
+-- by the id of a section, of which there are fewer than 16
+abbrev pub Tallies : Type 0
+Tallies = List Items
+
+abbrev pub tallies_of : List Frame → Tallies
+tallies_of fs = table 16 (tally_for fs)
+
+abbrev pub tally_at : Tallies → ℕ → Items
+tally_at t i = get_or t i (record { count = 0; total = 0 })
+
+-- none where there are no frames
+unfoldable pub tally_of : M.Option (List Frame) → Option Tallies
+tally_of M.none = None
+tally_of (M.some fs) = Some (tallies_of fs)
 
 -- no items of what is no section's id
 pub no_items : (i : ℕ) → among sections i ≡ false → (fs : List Frame) → All frame.Ok fs → items_of i fs ≡ []
@@ -64,45 +75,56 @@ items_few i (f ∷ fs) = go (eqb f.id i) (items_few i fs)
 pub items_within : (i : ℕ) (s : List ℕ) → length (items_of i (frames_of s)) + length (item_bytes i s) ≤ length s
 items_within i s = go (run frame s) refl
   where
-    go : (o : Option (List Frame)) → run frame s ≡ o → length (items_of i (held o)) + length (joined (items_of i (held o))) ≤ length s
-    go none e = omega arith
-    go (some fs) e = omega (arith, items_few i fs, ap length (run_only frame s fs e).1)
+    go : (o : M.Option (List Frame)) → run frame s ≡ o → length (items_of i (held o)) + length (joined (items_of i (held o))) ≤ length s
+    go M.none e = omega arith
+    go (M.some fs) e = omega (arith, items_few i fs, ap length (run_only frame s fs e).1)
 
 -- ---- tables
 
-pub table_at : (n : ℕ) (f : ℕ → ℕ) (i : ℕ) → i < n → get_or (table n f) i 0 ≡ f i
+pub table_at : {A : Type 0} (n : ℕ) (f : ℕ → A) (i : ℕ) (d : A) → i < n → get_or (table n f) i d ≡ f i
 unfolding table
-table_at zero f i h = absurd (omega arith)
-table_at (suc n) f zero h = refl
-table_at (suc n) f (suc i) h = table_at n (λ j. f (suc j)) i (omega arith)
+table_at zero f i d h = absurd (omega arith)
+table_at (suc n) f zero d h = refl
+table_at (suc n) f (suc i) d h = table_at n (λ j. f (suc j)) i d (omega arith)
 
-pub table_same : (n : ℕ) (f g : ℕ → ℕ) → ((i : ℕ) → f i ≡ g i) → table n f ≡ table n g
+pub table_same : {A : Type 0} (n : ℕ) (f g : ℕ → A) → ((i : ℕ) → f i ≡ g i) → table n f ≡ table n g
 unfolding table
 table_same zero f g e = refl
-table_same (suc n) f g e = ap₂ (λ (x : ℕ) (l : List ℕ). x ∷ l) (e 0) (table_same n (λ i. f (suc i)) (λ i. g (suc i)) (λ i. e (suc i)))
+table_same {A} (suc n) f g e = ap₂ (λ (x : A) (l : List A). x ∷ l) (e 0) (table_same n (λ i. f (suc i)) (λ i. g (suc i)) (λ i. e (suc i)))
 
--- one number changed
-pub table_set : (n : ℕ) (f g : ℕ → ℕ) (k v : ℕ) → v ≡ g k → ((i : ℕ) → (i ≡ k → ⊥) → f i ≡ g i) → set (table n f) k v ≡ table n g
+-- one of them changed
+pub table_set : {A : Type 0} (n : ℕ) (f g : ℕ → A) (k : ℕ) (v : A) → v ≡ g k → ((i : ℕ) → (i ≡ k → ⊥) → f i ≡ g i) → set (table n f) k v ≡ table n g
 unfolding table
 table_set zero f g k v p e = refl
-table_set (suc n) f g zero v p e = ap₂ (λ (x : ℕ) (l : List ℕ). x ∷ l) p (table_same n (λ i. f (suc i)) (λ i. g (suc i)) (λ i. e (suc i) (λ q. omega arith)))
-table_set (suc n) f g (suc k) v p e =
-    ap₂ (λ (x : ℕ) (l : List ℕ). x ∷ l) (e 0 (λ q. omega arith)) (table_set n (λ i. f (suc i)) (λ i. g (suc i)) k v p (λ i q. e (suc i) (λ r. q (omega arith))))
+table_set {A} (suc n) f g zero v p e = ap₂ (λ (x : A) (l : List A). x ∷ l) p (table_same n (λ i. f (suc i)) (λ i. g (suc i)) (λ i. e (suc i) (λ q. omega arith)))
+table_set {A} (suc n) f g (suc k) v p e =
+    ap₂ (λ (x : A) (l : List A). x ∷ l) (e 0 (λ q. omega arith)) (table_set n (λ i. f (suc i)) (λ i. g (suc i)) k v p (λ i q. e (suc i) (λ r. q (omega arith))))
 
 -- what a tally has of a section
-module _ (s : List ℕ) (i : ℕ) (h : i < 16) where
-  pub count_at : get_or (tally_of (run frame s)).counts i 0 ≡ length (items_of i (frames_of s))
-  unfolding tally_of
-  count_at = go (run frame s)
-    where
-      go : (o : Option (List Frame)) → get_or (tally_of o).counts i 0 ≡ length (items_of i (held o))
-      go none = table_at 16 (λ j. 0) i h
-      go (some fs) = table_at 16 (λ j. length (items_of j fs)) i h
+pub tally_is : (fs : List Frame) (i : ℕ) → i < 16 → tally_at (tallies_of fs) i ≡ tally_for fs i
+tally_is fs i h = table_at 16 (tally_for fs) i _ h
 
-  pub total_at : get_or (tally_of (run frame s)).totals i 0 ≡ length (item_bytes i s)
+module _ (s : List ℕ) {t : Tallies} (e : Some t ≡ tally_of (run frame s)) where
+  -- there are frames
+  pub framed : no_frames (run frame s) ≡ false
   unfolding tally_of
-  total_at = go (run frame s)
+  framed = go (run frame s) e
     where
-      go : (o : Option (List Frame)) → get_or (tally_of o).totals i 0 ≡ length (joined (items_of i (held o)))
-      go none = table_at 16 (λ j. 0) i h
-      go (some fs) = table_at 16 (λ j. length (joined (items_of j fs))) i h
+      go : (o : M.Option (List Frame)) → Some t ≡ tally_of o → no_frames o ≡ false
+      go M.none e = let z : ◌≡◌ {A = ℕ} 0 1 = cc in absurd (omega arith)
+      go (M.some fs) e = refl
+
+  pub tallied : t ≡ tallies_of (frames_of s)
+  unfolding tally_of
+  tallied = go (run frame s) e
+    where
+      go : (o : M.Option (List Frame)) → Some t ≡ tally_of o → t ≡ tallies_of (held o)
+      go M.none e = let z : ◌≡◌ {A = ℕ} 0 1 = cc in absurd (omega arith)
+      go (M.some fs) e = cc
+
+  module _ (i : ℕ) (h : i < 16) where
+    pub count_at : (tally_at t i).count ≡ length (items_of i (frames_of s))
+    count_at = rw (tallied, tally_is (frames_of s) i h)
+
+    pub total_at : (tally_at t i).total ≡ length (item_bytes i s)
+    total_at = rw (tallied, tally_is (frames_of s) i h)

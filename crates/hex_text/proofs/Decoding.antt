@@ -5,46 +5,30 @@ use borrow.Author.Tests.{lt-leb}
 use Rattle.format.specs.Parsed.{fail, got}
 use Rattle.format.specs.Read.{drop_more, drop_end}
 use Rattle.format.specs.Runs.{run_more_lem, run_stop, run_none}
-use Rattle.format.specs.Write.{over, todo, todo_start, todo_end, todo_byte}
-use Rattle.hex_text.specs.Hex.{digit_of, or_sixteen, digit_only, hex_byte, hex_some, line_bytes, line_long}
+use Rattle.format.specs.Write.{over, todo, todo_end, todo_byte}
+use Rattle.hex_text.specs.Hex.{digit_of, hex_byte, hex_some, line_bytes, line_long}
 use Rattle.hex_text.specs.Decode.{Decodes, decoded_of}
-use Rattle.hex_text.specs.declared.digits.Decoded.TheVariants.{Bytes, No}
-
--- ---- a character, by what `digit_of` answers
-
-is_digit : (c : ℕ) {n : ℕ} → n ≡ or_sixteen (digit_of c) → n ≤ 15 → digit_of c ≡ some n
-is_digit c {n} e h = go (digit_of c) e
-  where
-    go : (o : Option ℕ) → n ≡ or_sixteen o → o ≡ some n
-    go none e = absurd (omega arith)
-    go (some d) e = ap some (sym e)
-
-no_digit : (c : ℕ) {n : ℕ} → n ≡ or_sixteen (digit_of c) → 15 < n → digit_of c ≡ none
-no_digit c {n} e h = go (digit_of c) refl e
-  where
-    go : (o : Option ℕ) → digit_of c ≡ o → n ≡ or_sixteen o → o ≡ none
-    go none p e = refl
-    go (some d) p e = absurd (omega (arith, (digit_only c d p).0))
+use Rattle.std.specs.Prelude.{Some, None}
 
 -- ---- what the decoder answers
 
-pub decodes_not : {line xs ys : List ℕ} → line_bytes line ≡ none → length ys ≡ length xs → Decodes line xs ys No
+pub decodes_not : {line xs ys : List ℕ} → line_bytes line ≡ none → length ys ≡ length xs → Decodes line xs ys None
 unfolding decoded_of
 decodes_not {xs = xs} e l =
     record { right = sym (ap (λ (o : Option (List ℕ)). decoded_of o (length xs)) e); bytes = λ b f h. absurd (none-ne-some b (sym e ∙ f)); long = l }
 
-pub decodes_odd : {line xs : List ℕ} → length line % 2 ≡ 1 → Decodes line xs xs No
+pub decodes_odd : {line xs : List ℕ} → length line % 2 ≡ 1 → Decodes line xs xs None
 decodes_odd {line} {xs} odd = go (line_bytes line) refl
   where
-    go : (o : Option (List ℕ)) → line_bytes line ≡ o → Decodes line xs xs No
+    go : (o : Option (List ℕ)) → line_bytes line ≡ o → Decodes line xs xs None
     go none e = decodes_not e refl
     go (some b) e = absurd (omega (arith, odd, line_long line b e))
 
-pub decodes_short : {line xs : List ℕ} → length xs < length line / 2 → Decodes line xs xs No
+pub decodes_short : {line xs : List ℕ} → length xs < length line / 2 → Decodes line xs xs None
 unfolding decoded_of
 decodes_short {line} {xs} h = go (line_bytes line) refl
   where
-    go : (o : Option (List ℕ)) → line_bytes line ≡ o → Decodes line xs xs No
+    go : (o : Option (List ℕ)) → line_bytes line ≡ o → Decodes line xs xs None
     go none e = decodes_not e refl
     go (some b) e =
         let k : length xs < length b = omega (arith, line_long line b e) in
@@ -60,13 +44,6 @@ pub record Decoding (line xs ys : List ℕ) (i : ℕ) : Type 0 where
   pub rest : map (λ (b : List ℕ). todo i b ys) (line_bytes (drop (2 * i) line)) ≡ map (λ (b : List ℕ). over b xs) (line_bytes line)
   pub long : length ys ≡ length xs
 
-pub decoding_none : {line xs : List ℕ} → Decoding line xs xs 0
-decoding_none {line} {xs} = record { rest = go (line_bytes line); long = refl }
-  where
-    go : (o : Option (List ℕ)) → map (λ (b : List ℕ). todo 0 b xs) o ≡ map (λ (b : List ℕ). over b xs) o
-    go none = refl
-    go (some b) = ap some (todo_start b xs)
-
 module _ {line xs ys : List ℕ} {i : ℕ} (d : Decoding line xs ys i) (h : 2 * i + 1 < length line) (chars : (k : ℕ) → get_or line k 0 < 256) where
   two : drop (2 * i) line ≡ get_or line (2 * i) 0 ∷ get_or line (2 * i + 1) 0 ∷ drop (2 * (i + 1)) line
   two =
@@ -76,17 +53,17 @@ module _ {line xs ys : List ℕ} {i : ℕ} (d : Decoding line xs ys i) (h : 2 * 
   some_left : 0 < length (drop (2 * i) line)
   some_left = omega (arith, length-drop (2 * i) line)
 
-  stopped : hex_byte.parse (drop (2 * i) line) ≡ fail → Decodes line xs ys No
+  stopped : hex_byte.parse (drop (2 * i) line) ≡ fail → Decodes line xs ys None
   stopped e = decodes_not (go (line_bytes line) (sym d.rest ∙ ap (map (λ (b : List ℕ). todo i b ys)) (run_stop hex_byte hex_some (drop (2 * i) line) some_left e))) d.long
     where
       go : (o : Option (List ℕ)) → map (λ (b : List ℕ). over b xs) o ≡ none → o ≡ none
       go none q = refl
       go (some b) q = absurd (none-ne-some (over b xs) (sym q))
 
-  decoding_first : digit_of (get_or line (2 * i) 0) ≡ none → Decodes line xs ys No
+  decoding_first : digit_of (get_or line (2 * i) 0) ≡ none → Decodes line xs ys None
   decoding_first e = stopped (ap hex_byte.parse two ∙ rw (lt-ltb (get_or line (2 * i) 0) 256 (chars (2 * i)), e))
 
-  decoding_second : {a : ℕ} → digit_of (get_or line (2 * i) 0) ≡ some a → digit_of (get_or line (2 * i + 1) 0) ≡ none → Decodes line xs ys No
+  decoding_second : {a : ℕ} → digit_of (get_or line (2 * i) 0) ≡ some a → digit_of (get_or line (2 * i + 1) 0) ≡ none → Decodes line xs ys None
   decoding_second e f =
       stopped (ap hex_byte.parse two ∙ rw (lt-ltb (get_or line (2 * i) 0) 256 (chars (2 * i)), e, lt-ltb (get_or line (2 * i + 1) 0) 256 (chars (2 * i + 1)), f))
 
@@ -106,38 +83,37 @@ module _ {line xs ys : List ℕ} {i : ℕ} (d : Decoding line xs ys i) (h : 2 * 
       go none = refl
       go (some r) = ap some (todo_byte i (16 * a + b) r ys k)
 
--- ---- by what `digit_of` answered for two characters, and what was tested
+-- ---- by the digits that the two characters are
 
-module _ {line xs ys : List ℕ} {i : ℕ} (d : Decoding line xs ys i) (h : i < length line / 2) (each : (k : ℕ) → Fits w8 (get_or line k 0)) {a b : ℕ}
-    (e : a ≡ or_sixteen (digit_of (get_or line (2 * i) 0))) (f : b ≡ or_sixteen (digit_of (get_or line (2 * i + 1) 0))) where
+module _ {line xs ys : List ℕ} {i : ℕ} (d : Decoding line xs ys i) (h : i < length line / 2) (each : (k : ℕ) → Fits w8 (get_or line k 0)) where
   chars : (k : ℕ) → get_or line k 0 < 256
   chars k = let w = each k in omega arith
 
-  pub high_wrong : 15 < a → Decodes line xs ys No
-  high_wrong m = decoding_first d (omega arith) chars (no_digit (get_or line (2 * i) 0) e m)
+  pub high_wrong : digit_of (get_or line (2 * i) 0) ≡ none → Decodes line xs ys None
+  high_wrong = decoding_first d (omega arith) chars
 
-  module _ (m : a ≤ 15) where
-    pub low_wrong : 15 < b → Decodes line xs ys No
-    low_wrong n = decoding_second d (omega arith) chars (is_digit (get_or line (2 * i) 0) e m) (no_digit (get_or line (2 * i + 1) 0) f n)
+  module _ {a : ℕ} (e : digit_of (get_or line (2 * i) 0) ≡ some a) where
+    pub low_wrong : digit_of (get_or line (2 * i + 1) 0) ≡ none → Decodes line xs ys None
+    low_wrong = decoding_second d (omega arith) chars e
 
-    pub both_right : b ≤ 15 → length line / 2 ≤ length xs → Decoding line xs (set ys i (16 * a + b)) (i + 1)
-    both_right n l = decoding_more d (omega arith) chars (is_digit (get_or line (2 * i) 0) e m) (is_digit (get_or line (2 * i + 1) 0) f n) (omega (arith, d.long))
+    pub both_right : {b : ℕ} → digit_of (get_or line (2 * i + 1) 0) ≡ some b → length line / 2 ≤ length xs → Decoding line xs (set ys i (16 * a + b)) (i + 1)
+    both_right f l = decoding_more d (omega arith) chars e f (omega (arith, d.long))
 
-pub decoding_done : {line xs ys : List ℕ} {i : ℕ} → Decoding line xs ys i → (length line % 2 ≡ 1 → ⊥) → length line / 2 ≤ i → length line / 2 ≤ length xs → Decodes line xs ys (Bytes (length line / 2))
+pub decoding_done : {line xs ys : List ℕ} {i : ℕ} → Decoding line xs ys i → (length line % 2 ≡ 1 → ⊥) → length line / 2 ≤ i → length line / 2 ≤ length xs → Decodes line xs ys (Some (length line / 2))
 unfolding decoded_of
 decoding_done {line} {xs} {ys} {i} d even h k = go (line_bytes line) refl (sym done ∙ d.rest)
   where
     done : map (λ (b : List ℕ). todo i b ys) (line_bytes (drop (2 * i) line)) ≡ some ys
     done = ap (λ (r : List ℕ). map (λ (b : List ℕ). todo i b ys) (line_bytes r)) (drop_end line (2 * i) (omega (arith, even))) ∙ rw (run_none hex_byte hex_some) (ap some (todo_end i ys))
 
-    go : (o : Option (List ℕ)) → line_bytes line ≡ o → some ys ≡ map (λ (b : List ℕ). over b xs) o → Decodes line xs ys (Bytes (length line / 2))
+    go : (o : Option (List ℕ)) → line_bytes line ≡ o → some ys ≡ map (λ (b : List ℕ). over b xs) o → Decodes line xs ys (Some (length line / 2))
     go none e q = absurd (none-ne-some ys (sym q))
     go (some b) e q =
         let l : length b ≤ length xs = omega (arith, line_long line b e) in
         let n : length line / 2 ≡ length b = omega (arith, line_long line b e) in
         let y : ys ≡ over b xs = cc in
         record {
-          right = ap Bytes n ∙ sym (rw (e, le-leb (length b) (length xs) l));
+          right = ap Some n ∙ sym (rw (e, le-leb (length b) (length xs) l));
           bytes = λ a f m. let s : b ≡ a = cc in y ∙ ap (λ (r : List ℕ). over r xs) s;
           long = d.long;
         }

@@ -1,5 +1,4 @@
 -- What the proofs of `hex_text` share.
-pub mod Characters
 pub mod Decoding
 pub mod Printing
 pub mod Reading

@@ -1,22 +1,31 @@
 -- The frame that a line holds, as it is found: the bytes but the last, where that is their check byte. Assumes nothing.
-use Rattle.std.specs.Prelude.{◌≡◌, ℕ, ◌-◌, ◌<◌, ◌≤◌, List, [], ◌∷◌, length, take, ◌≢◌, slice_index, slice_index_or}
+use Rattle.std.specs.Prelude.{◌≡◌, ℕ, ◌-◌, ◌<◌, ◌≤◌, List, [], ◌∷◌, length, take, ◌≢◌, slice_index, slice_index_or, Some, None}
+use Rattle.std.specs.Prelude as code
 use Rattle.std.proofs.Math.Path.{refl, ap}
 use Rattle.std.proofs.Common.{sym, ◌∙◌, arith}
-use Rattle.std.proofs.Math.Option.{none, some}
+use Rattle.std.proofs.Math.Option.{Option, none, some}
+use Rattle.std.proofs.lemmas.Option.{none-some}
 use borrow.Author.Tests.{le-leb, lt-leb, eq-eqb, ne_eqb}
 use Rattle.hex_text.specs.Hex.{line_bytes}
 use Rattle.hex_text.specs.Sum.{sum_of, check_of, check_exactly}
-use Rattle.hex_text.specs.Frame.{frame_of}
+use Rattle.hex_text.specs.Frame.{Frame, frame_of}
 use Rattle.hex_text.specs.Line.{digits_most, summed, line_of, split_last}
 
--- the contract: the first n bytes of the memory ys are the line's frame; none where the line holds none
-pub record Holds (line ys : List ℕ) (n : ℕ) : Type 0 where
-  pub within : n ≤ length ys
-  pub frame : line_of line ≡ frame_of (take n ys)
+-- the frame that the first bytes of ys are, as many as are told; none where none are
+abbrev pub frame_in : List ℕ → code.Option ℕ → Option Frame
+frame_in ys None = none
+frame_in ys (Some n) = frame_of (take n ys)
 
-pub holds_none : {line : List ℕ} (ys : List ℕ) → line_of line ≡ none → Holds line ys 0
-unfolding frame_of
-holds_none ys e = record { within = omega arith; frame = e }
+-- the contract: as many of the first bytes of the memory ys as are told are the line's frame; none are where the line holds none
+pub record Holds (line ys : List ℕ) (r : code.Option ℕ) : Type 0 where
+  pub within : (n : ℕ) → r ≡ Some n → n ≤ length ys
+  pub frame : line_of line ≡ frame_in ys r
+
+pub holds_none : {line : List ℕ} (ys : List ℕ) → line_of line ≡ none → Holds line ys None
+holds_none ys e = record { within = λ n q. absurd (none-some n q); frame = e }
+
+pub holds_some : {line : List ℕ} (ys : List ℕ) (n : ℕ) → n ≤ length ys → line_of line ≡ frame_of (take n ys) → Holds line ys (Some n)
+holds_some ys n h e = record { within = λ m q. let k : n ≡ m = cc in omega arith; frame = e }
 
 module _ (line : List ℕ) where
   pub too_long : digits_most < length line → line_of line ≡ none

@@ -23,11 +23,6 @@ within a b c = cond (nat_le a c) (nat_le c b) false
 unfoldable pub digit_of : ℕ → Option ℕ
 digit_of c = cond (within 0x30 0x39 c) (some (c - 0x30)) (cond (within 0x41 0x46 c) (some (c - 0x37)) none)
 
--- 16 stands for none
-abbrev pub or_sixteen : Option ℕ → ℕ
-or_sixteen none = 16
-or_sixteen (some d) = d
-
 within_or : (a b c : ℕ) → ((a ≤ c) × (c ≤ b)) ⊎ (a ≤ c → b < c)
 within_or a b c = go (fits_or a c) (fits_or c b)
   where

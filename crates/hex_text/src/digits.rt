@@ -1,68 +1,50 @@
 // Upper-case hexadecimal: two characters a byte.
-ghost use Rattle.std.specs.Prelude.{◌≡◌, ◌+◌, ◌*◌, ◌<◌, ◌≤◌, ◌∷◌, length};
+ghost use Rattle.std.specs.Prelude.{◌≡◌, ◌+◌, ◌*◌, ◌<◌, ◌≤◌, ◌∷◌, length, MatchOption, Ok};
+ghost use Rattle.std.proofs.Math.Option.{none, some};
 ghost use Rattle.format.specs.Write.{Writes};
-ghost use Rattle.hex_text.specs.Hex.{char_of, digit_of, or_sixteen, hex_of};
+ghost use Rattle.hex_text.specs.Hex.{char_of, digit_of, hex_of};
 ghost use Rattle.hex_text.specs.Decode.{Decodes};
 
-use format::Written;
+use format::{Refusal, Written};
 
-// The digit that a character is, or 16 where it is none. A character below a range wraps to one above it, so that each range is one test.
-fn digit_of(c: u8) -> u8
-    ensures { result ≡ or_sixteen (digit_of c) }
+// The digit that a character is.
+#[tactic(auto, unfolding(crate::specs::Hex::digit_of))]
+fn digit_of(c: u8) -> Option<u8>
+    ensures { MatchOption result (digit_of c ≡ none) (λ d. digit_of c ≡ some d) }
 {
-    let d = std::num::wrapping_sub_u8(c, 0x30);
-    if d < 10 {
-        return d;
+    match c {
+        b'0'..=b'9' => Some(c - b'0'),
+        b'A'..=b'F' => Some(c - b'A' + 10),
+        _ => None,
     }
-    let l = std::num::wrapping_sub_u8(c, 0x41);
-    if l < 6 {
-        return l + 10;
-    }
-    16
 }
 
+// The character of a digit.
+#[tactic(auto, unfolding(crate::specs::Hex::char_of))]
 fn char_of(d: u8) -> u8
     requires { d < 16 }
     ensures { result ≡ char_of d }
 {
-    if d < 10 {
-        return 0x30 + d;
-    }
-    0x37 + d
+    if d < 10 { b'0' + d } else { b'A' + (d - 10) }
 }
 
-// How many bytes a line holds; or that it is no pairs of digits, or that there is no room for its bytes.
-#[derive(Clone, Copy)]
-pub enum Decoded {
-    Bytes(usize),
-    No,
-}
-
-// The bytes of a line, at the front of `out`.
-pub fn decode(line: &[u8], out: &mut [u8]) -> Decoded
+// How many bytes a line holds, at the front of `out`; none where it is no pairs of digits, or there is no room for its bytes.
+pub fn decode(line: &[u8], out: &mut [u8]) -> Option<usize>
     ensures { Decodes line.now out.old out.new result }
 {
     let n = line.len() / 2;
     if line.len() % 2 == 1 {
-        return Decoded::No;
+        return None;
     }
     if out.len() < n {
-        return Decoded::No;
+        return None;
     }
-    let mut i = 0;
-    while i < n {
-        let high = digit_of(line[2 * i]);
-        let low = digit_of(line[2 * i + 1]);
-        if 15 < high {
-            return Decoded::No;
-        }
-        if 15 < low {
-            return Decoded::No;
-        }
+    for i in 0..n {
+        let high = digit_of(line[2 * i])?;
+        let low = digit_of(line[2 * i + 1])?;
         out[i] = 16 * high + low;
-        i += 1;
     }
-    Decoded::Bytes(n)
+    Some(n)
 }
 
 // The digits of some bytes. Where they do not fit nothing is written.
@@ -70,24 +52,21 @@ pub fn put_hex(bytes: &[u8], out: &mut [u8]) -> Written
     ensures { Writes (hex_of bytes.now) out.old out.new result }
 {
     if out.len() / 2 < bytes.len() {
-        return Written::Short;
+        return Err(Refusal::OutputShort);
     }
-    let mut i = 0;
-    while i < bytes.len() {
-        let b = bytes[i];
+    for (i, &b) in bytes.iter().enumerate() {
         out[2 * i] = char_of(b / 16);
         out[2 * i + 1] = char_of(b % 16);
-        i += 1;
     }
-    Written::Length(2 * bytes.len())
+    Ok(2 * bytes.len())
 }
 
 // The digits of a number and, behind them, of some bytes.
 pub fn put_answer(number: u8, bytes: &[u8], out: &mut [u8]) -> usize
     requires { 2 + 2 * length bytes.now ≤ length out.old }
-    ensures { Writes (hex_of (number ∷ bytes.now)) out.old out.new (Written.Length result) }
+    ensures { Writes (hex_of (number ∷ bytes.now)) out.old out.new (Ok result) }
 {
-    put_hex(&[number], out);
-    put_hex(bytes, &mut out[2..]);
+    let _ = put_hex(&[number], out);
+    let _ = put_hex(bytes, &mut out[2..]);
     2 + 2 * bytes.len()
 }

@@ -2,29 +2,24 @@
 ghost use Rattle.std.specs.Prelude.{◌≤◌, length};
 ghost use Rattle.hex_text.specs.Held.{Holds};
 
-use crate::digits::{Decoded, decode};
+use crate::digits::decode;
 use crate::sum::check_byte;
 
 // A line has at most 8,192 digits.
 const DIGITS_MOST: usize = 8192;
 
-// How many bytes the frame has that a line holds, at the front of `out`; 0 where it holds none.
-pub fn frame_bytes(line: &[u8], out: &mut [u8]) -> usize
+// How many bytes the frame has that a line holds, at the front of `out`.
+pub fn frame_bytes(line: &[u8], out: &mut [u8]) -> Option<usize>
     requires { 4096 ≤ length out.old }
     ensures { Holds line.now out.new result }
 {
     if DIGITS_MOST < line.len() {
-        return 0;
+        return None;
     }
-    let Decoded::Bytes(n) = decode(line, out) else {
-        return 0;
-    };
-    if n == 0 {
-        return 0;
+    let end = decode(line, out)?.checked_sub(1)?;
+    if out[end] == check_byte(&out[..end]) {
+        Some(end)
+    } else {
+        None
     }
-    let end = n - 1;
-    if out[end] == check_byte(&out[0..end]) {
-        return end;
-    }
-    0
 }

@@ -1,21 +1,15 @@
 // Words of 32 bits, each in four bytes, low first.
 ghost use Rattle.std.specs.Prelude.{◌≡◌, ◌+◌, ◌≤◌, length, drop};
 ghost use Rattle.format.specs.Parsed.{got};
-ghost use Rattle.frames.specs.Frames.{value_of, word32};
+ghost use Rattle.frames.specs.Frames.{word32};
 ghost use Rattle.hex_text.specs.Words.{Reads};
-
-fn word_of(a: u8, b: u8, c: u8, d: u8) -> u32
-    ensures { result ≡ value_of (a, (b, (c, d))) }
-{
-    a as u32 + 256 * (b as u32 + 256 * (c as u32 + 256 * (d as u32)))
-}
 
 // The word at a place.
 pub fn word_at(bytes: &[u8], at: usize) -> u32
     requires { at + 4 ≤ length bytes.now }
     ensures { word32.parse (drop at bytes.now) ≡ got result (drop (at + 4) bytes.now) }
 {
-    word_of(bytes[at], bytes[at + 1], bytes[at + 2], bytes[at + 3])
+    u32::from_le_bytes([bytes[at], bytes[at + 1], bytes[at + 2], bytes[at + 3]])
 }
 
 // Whether n words stand at the front of some bytes and `out` has room for them; then they are at its front, and else nothing was written.
@@ -28,10 +22,8 @@ pub fn read_words(bytes: &[u8], n: usize, out: &mut [u32]) -> bool
     if out.len() < n {
         return false;
     }
-    let mut i = 0;
-    while i < n {
+    for i in 0..n {
         out[i] = word_at(bytes, 4 * i);
-        i += 1;
     }
     true
 }

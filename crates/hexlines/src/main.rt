@@ -26,7 +26,7 @@ fn read_piece<I: Read, E: Print>(input: &mut I, errors: &E, piece: &mut [u8]) ->
 }
 
 // The run behind all of a piece, and whether what was said is written.
-#[derive(Clone, Copy)]
+#[derive(Clone, Copy, Debug, PartialEq, Eq)]
 struct Turn {
     run: Run,
     ok: bool,
@@ -47,29 +47,20 @@ fn hear_piece<W: Print>(
 {
     let mut run = r;
     let mut i = 0;
+    // By as much as was heard each time.
     while i < piece.len() {
         let h = take_piece(&piece[i..], run, line, store, buffer, out);
-        let said = h.run;
-        let at = said.at;
-        let ok = is_written(output, &out[0..at]);
-        let state = said.state;
-        run = Run {
-            state: state,
-            n: said.n,
-            at: 0,
-        };
+        let ok = is_written(output, &out[0..h.run.at]);
+        run = Run { at: 0, ..h.run };
         if !ok {
-            return Turn {
-                run: run,
-                ok: false,
-            };
+            return Turn { run, ok: false };
         }
         i += h.to;
     }
-    Turn { run: run, ok: true }
+    Turn { run, ok: true }
 }
 
-// Nothing says that the input ends, so the turns are counted down from a number that no run uses up. Before each read nothing waits to be written.
+// Nothing says that the input ends, so the turns are counted to a number that no run uses up. Before each read nothing waits to be written.
 fn answer_all<I: Read, W: Print, E: Print>(
     input: &mut I,
     output: &W,
@@ -83,32 +74,26 @@ fn answer_all<I: Read, W: Print, E: Print>(
     requires { (length line.old ≡ kept_most) × (length store.old ≡ store_long) × (length buffer.old ≡ buffer_long) × (longest ≤ length out.old) }
     ensures { result.run.at ≤ length out.new }
 {
-    let state = State::new();
     let mut run = Run {
-        state: state,
+        state: State::new(),
         n: 0,
         at: 0,
     };
-    let mut turns = u64::MAX;
-    while 0 < turns {
+    for _ in 0..u64::MAX {
         let Some(n) = read_piece(input, errors, piece) else {
-            return Turn { run: run, ok: true };
+            return Turn { run, ok: true };
         };
         if n == 0 {
-            let last = end_input(run, line, store, buffer, out);
-            return Turn {
-                run: last,
-                ok: true,
-            };
+            run = end_input(run, line, store, buffer, out);
+            return Turn { run, ok: true };
         }
         let t = hear_piece(output, &piece[0..n], run, line, store, buffer, out);
         if !t.ok {
             return t;
         }
         run = t.run;
-        turns -= 1;
     }
-    Turn { run: run, ok: true }
+    Turn { run, ok: true }
 }
 
 fn main(rt: HostRuntime) {
@@ -130,9 +115,7 @@ fn main(rt: HostRuntime) {
         &mut buffer,
         &mut out,
     );
-    let run = t.run;
-    let at = run.at;
-    if t.ok && is_written(&output, &out[0..at]) {
+    if t.ok && is_written(&output, &out[0..t.run.at]) {
         return;
     }
     is_written(&errors, b"hexlines: writing failed\n");

@@ -3,30 +3,26 @@ use mathlib.Core.Path.{◌≡◌, refl, sym, ap, ◌∙◌}
 use mathlib.Core.Logic.{⊎_elim}
 use mathlib.Core.Bool.{Bool, true, false, cond}
 use mathlib.Core.List.{List, [], ◌∷◌, ◌++◌}
-use Prim.Native.Nat.{ℕ, ◌+◌, ◌-◌, ◌<◌, ◌≤◌}
+use Prim.Native.Nat.{ℕ, ◌+◌, ◌<◌, ◌≤◌}
 use native.Mathlib.Omega.{arith}
 use lib.Dec.{eqb}
-use mir.Syntax.{w64}
-use mir.Val.{Fits}
 use lib.ListN.{length, get_or, drop, length-append, length-drop}
-use borrow.Author.Tests.{ne_eqb, eqb-true}
+use borrow.Author.Tests.{eqb-true}
 use Rattle.format.specs.Parsed.{Parsed, fail, got, bind, map}
 use Rattle.format.specs.Count.{Appends, silent, adds_seq}
-use Rattle.format.specs.Read.{drop_more, drop_end, drop_two, one_read, none_read}
+use Rattle.format.specs.Read.{drop_two, one_read}
 use Rattle.format.specs.Told.{one_at}
-use Rattle.format.specs.Walk.{nothing_there, not_found, Walks, walks_as}
+use Rattle.format.specs.Walk.{Walks, walks_as}
 use Rattle.format.specs.Write.{fits_or}
 use Rattle.format.specs.declared.Done.{Done}
-use Rattle.format.specs.declared.Walk.{Walk}
-use Rattle.format.specs.declared.Walk.TheVariants as walks
+use Rattle.format.specs.Walk.{Walk}
+use Rattle.std.specs.Prelude.{Option, Some}
 use Rattle.leb128.specs.Leb.{uleb}
-use Rattle.texts.specs.Judge.{text_most}
 use Rattle.texts.specs.Section.{Section}
 use Rattle.texts.specs.Spans.{span}
-use Rattle.texts.specs.Place.{sized_at, text_at, stands, stands_not}
+use Rattle.texts.specs.Place.{sized_at, text_at, stands}
 use Rattle.texts.specs.declared.Span.{Span}
-use Rattle.texts.specs.declared.TextAt.{TextAt}
-use Rattle.texts.specs.declared.TextAt.TheVariants.{At, No}
+use Rattle.std.specs.Prelude.{Option}
 use Rattle.parts.specs.Text.{name, name_bytes}
 use Rattle.parts.specs.Both.{both, behind}
 use Rattle.parts.specs.Listed.{listed}
@@ -34,68 +30,20 @@ use Rattle.parts.specs.Writing.{Writing, part_follows}
 use Rattle.parts.specs.Chosen.{chosen_writing}
 use Rattle.parts.specs.Reading.{Reading, record_at, two_reads}
 use Rattle.imports.specs.Entity.{entity}
-use Rattle.imports.specs.Forms.{member, Rest, rest, form, Imports, form_of, form_word, words}
+use Rattle.imports.specs.Forms.{Import, Name, member, Rest, rest, form, Imports, form_of, form_word}
 use Rattle.imports.specs.Compact.{form_in, form_at, bytes}
 use Rattle.imports.specs.Section.{import_section}
 use Rattle.imports.specs.declared.Form.{Form}
 use Rattle.imports.specs.declared.Form.TheVariants.{Single, Compact1, Compact2}
-use Rattle.imports.specs.declared.Member.TheVariants.{Import, Name}
-
--- ---- the form by two bytes
-
-module _ (b : List ℕ) (at : ℕ) where
-  pub form_none : length b ≤ at → Single ≡ form_at (drop at b)
-  form_none h = rw (drop_end b at h)
-
-  module _ (h : at < length b) where
-    pub form_one : length b - at < 2 → Single ≡ form_at (drop at b)
-    form_one k = rw (drop_more b at h, drop_end b (at + 1) (omega arith))
-
-    module _ (k : 2 ≤ length b - at) where
-      two : drop at b ≡ get_or b at 0 ∷ get_or b (at + 1) 0 ∷ drop (at + 2) b
-      two = drop_two b at (omega arith)
-
-      pub form_other : (get_or b at 0 ≡ 0 → ⊥) → Single ≡ form_at (drop at b)
-      form_other n = rw (two, ne_eqb (get_or b at 0) 0 n)
-
-      module _ (z : get_or b at 0 ≡ 0) where
-        pub form_compact1 : get_or b (at + 1) 0 ≡ 0x7F → Compact1 ≡ form_at (drop at b)
-        form_compact1 e = rw (two, z, e)
-
-        pub form_compact2 : get_or b (at + 1) 0 ≡ 0x7E → Compact2 ≡ form_at (drop at b)
-        form_compact2 e = rw (two, z, e)
-
-        pub form_single : (get_or b (at + 1) 0 ≡ 0x7F → ⊥) → (get_or b (at + 1) 0 ≡ 0x7E → ⊥) → Single ≡ form_at (drop at b)
-        form_single m n = rw (two, z, ne_eqb (get_or b (at + 1) 0) 0x7F m, ne_eqb (get_or b (at + 1) 0) 0x7E n)
 
 -- ---- writing: the form by the first word
 
--- the module's name was walked, and then what the form has behind it
-pub form_writes : (f : Form) {t w : List ℕ} {at : ℕ} {old : List ℕ} {s : Done} {cur : List ℕ} {p : ℕ} {u : Done} {new : List ℕ} {r r' : Walk} → at < length w → get_or w at 0 ≡ form_of f
-    → Writing name t w (at + 1) old s cur r → r ≡ walks.Got p u → Writing (rest f) t w p cur u new r' → Writing import_section t w at old s new r'
-form_writes f {w = w} {at} h e x g y =
-    chosen_writing form_word (λ f. tt) form bytes (λ x. (λ h. h, λ h. h)) (λ x. refl) f (one_read form_word f (form_of f) tt refl w at h e)
+-- x is the first word; the module's name was walked, and then what the form has behind it
+pub form_writes : (f : Form) {t w : List ℕ} {at x : ℕ} {old : List ℕ} {s : Done} {cur : List ℕ} {p : ℕ} {u : Done} {new : List ℕ} {r r' : Walk} → at < length w → x ≡ get_or w at 0 → x ≡ form_of f
+    → Writing name t w (at + 1) old s cur r → r ≡ Some (p, u) → Writing (rest f) t w p cur u new r' → Writing import_section t w at old s new r'
+form_writes f {w = w} {at} h i e x g y =
+    chosen_writing form_word (λ f. tt) form bytes (λ x. (λ h. h, λ h. h)) (λ x. refl) f (one_read form_word f (form_of f) tt refl w at h (sym i ∙ e))
     (part_follows name (rest f) x g y)
-
-module _ {t w : List ℕ} {at : ℕ} {old : List ℕ} {s : Done} {new : List ℕ} where
-  module _ (h : at < length w) where
-    pub no_form : (get_or w at 0 ≡ 0 → ⊥) → (get_or w at 0 ≡ 1 → ⊥) → (get_or w at 0 ≡ 2 → ⊥) → Writing import_section t w at old s new walks.No
-    no_form i j k = record { writes = nothing_there (rw (none_read form_word form_of (λ f. refl) w at h (elim [ Single ↦ i | Compact1 ↦ j | Compact2 ↦ k ]))) }
-
-    -- whatever the form, no name follows
-    pub no_name : {r : Walk} → Writing name t w (at + 1) old s new r → r ≡ walks.No → Writing import_section t w at old s new walks.No
-    no_name x g = record { writes = nothing_there (go (form_word.parse (drop at w)) refl) }
-      where
-        e : span.parse (drop (at + 1) w) ≡ fail
-        e = not_found x.writes g
-
-        go : (m : Parsed Form) → form_word.parse (drop at w) ≡ m → words.parse (drop at w) ≡ fail
-        go fail p = rw p
-        go (got f r) p =
-            let q : get_or w at 0 ∷ drop (at + 1) w ≡ form_of f ∷ r = sym (drop_more w at h) ∙ (form_word.only (drop at w) f r p).1 in
-            let d : r ≡ drop (at + 1) w = cc q in
-            let z : span.parse r ≡ fail = ap span.parse d ∙ e in
-            rw (p, z)
 
 -- ---- reading: two bytes tell a compact form
 
@@ -133,10 +81,7 @@ module _ (b : List ℕ) (p : ℕ) (f : Form) (n : f ≡ Single → ⊥) (e : f �
 -- ---- reading: the module's name, and what stands behind it
 
 module _ (b : List ℕ) (at : ℕ) (old : List ℕ) (s : Done) (new : List ℕ) where
-  not_named : text_at (sized_at at) (name_bytes.parse (drop at b)) ≡ No → Reading import_section b at old s new walks.No
-  not_named e = record { reads = λ h. nothing_there (rw (stands_not name_bytes (sized_at at) b at e)) }
-
-  module _ (v : Span) (e : text_at (sized_at at) (name_bytes.parse (drop at b)) ≡ At v) where
+  module _ (v : Span) (e : text_at (sized_at at) (name_bytes.parse (drop at b)) ≡ Some v) where
     name_end : (h : at ≤ length b) → let n = (stands name_bytes (sized_at at) b at v h e).text in v.start + v.len ≡ at + length (name_bytes.print n)
     name_end h =
         let g = stands name_bytes (sized_at at) b at v h e in
@@ -179,11 +124,8 @@ one_not e = let z : ◌≡◌ {A = ℕ} 0 1 = cc in omega arith
 two_not : Compact2 ≡ Single → ⊥
 two_not e = let z : ◌≡◌ {A = ℕ} 0 1 = cc in omega arith
 
-module _ {b : List ℕ} {at : ℕ} {found : TextAt} (d : found ≡ text_at (sized_at at) (name_bytes.parse (drop at b))) {old : List ℕ} {s : Done} {new : List ℕ} where
-  pub no_module : found ≡ No → Reading import_section b at old s new walks.No
-  no_module e = not_named b at old s new (sym d ∙ e)
-
-  module _ {v : Span} (e : found ≡ At v) {f : Form} (g : f ≡ form_at (drop (v.start + v.len) b)) {cur : List ℕ} {u : Done} {r : Walk} where
+module _ {b : List ℕ} {at : ℕ} {found : Option Span} (d : found ≡ text_at (sized_at at) (name_bytes.parse (drop at b))) {old : List ℕ} {s : Done} {new : List ℕ} where
+  module _ {v : Span} (e : found ≡ Some v) {f : Form} (g : f ≡ form_at (drop (v.start + v.len) b)) {cur : List ℕ} {u : Done} {r : Walk} where
     pub single_reads : f ≡ Single → Appends (0 ∷ span.print v) old s cur u → Reading (member Import) b (v.start + v.len) cur u new r → Reading import_section b at old s new r
     single_reads k a x = form_reads b at old s new v (sym d ∙ e) Single (sym k ∙ g) cur u r a x
 
@@ -197,14 +139,6 @@ module _ {b : List ℕ} {at : ℕ} {found : TextAt} (d : found ≡ text_at (size
     compact2_reads k a x =
         form_reads b at old s new v (sym d ∙ e) Compact2 (sym k ∙ g) cur u r a
         (compact_reads b (v.start + v.len) Compact2 two_not (sym k ∙ g) (both entity (listed (member Name))) cur u new r x)
-
--- the two bytes of a compact form are within the bytes, so the place behind them is a number of 64 bits
-module _ (b : List ℕ) (p : ℕ) (most : length b ≤ text_most) (f : Form) (g : f ≡ form_at (drop p b)) where
-  pub behind_compact1 : f ≡ Compact1 → Fits w64 (p + 2)
-  behind_compact1 k = let h = compact_long b p Compact1 one_not (sym k ∙ g) in record { fits = omega arith }
-
-  pub behind_compact2 : f ≡ Compact2 → Fits w64 (p + 2)
-  behind_compact2 k = let h = compact_long b p Compact2 two_not (sym k ∙ g) in record { fits = omega arith }
 
 -- a form, and a span behind it
 pub head_added : {f : ℕ} {v : Span} {old : List ℕ} {s : Done} {cur : List ℕ} {t : Done} {new : List ℕ} {u : Done} → Appends (f ∷ []) old s cur t → Appends (span.print v) cur t new u

@@ -15,10 +15,12 @@ use Rattle.imports.specs.Entity.{entity}
 use Rattle.imports.specs.declared.EntityType.{EntityType}
 use Rattle.imports.specs.declared.Form.{Form}
 use Rattle.imports.specs.declared.Form.TheVariants.{Single, Compact1, Compact2}
-use Rattle.imports.specs.declared.Member.{Member}
-use Rattle.imports.specs.declared.Member.TheVariants.{Import, Name}
 
 -- ---- the members of the lists: a name and an entity, or a name alone
+
+pub data Member : Type 0 where
+  Import : Member
+  Name : Member
 
 abbrev pub MemberOf : Member → Type 0 → Type 0
 MemberOf Import S = S × EntityType

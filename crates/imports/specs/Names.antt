@@ -3,11 +3,9 @@ use Rattle.std.specs.Prelude.{refl, List, [], ◌∷◌}
 use Rattle.texts.specs.Plain.{Names}
 use Rattle.texts.specs.declared.Span.{Span}
 use Rattle.parts.specs.Listed.{texts_of}
-use Rattle.imports.specs.Forms.{Imports, MemberOf, member}
+use Rattle.imports.specs.Forms.{Imports, Member, Import, Name, MemberOf, member}
 use Rattle.imports.specs.Section.{import_section}
 use Rattle.imports.specs.declared.Form.TheVariants.{Single, Compact1, Compact2}
-use Rattle.imports.specs.declared.Member.{Member}
-use Rattle.imports.specs.declared.Member.TheVariants.{Import, Name}
 
 list_names : (m : Member) (l : List (MemberOf m Span)) → Names (texts_of (member m) l)
 list_names m [] = tt

@@ -8,7 +8,7 @@ pub use reader::walk_bytes;
 use tables::{GlobalType, MemoryType, TableType, TagType};
 pub use writer::walk_words;
 
-#[derive(Clone, Copy)]
+#[derive(Clone, Copy, Debug, PartialEq, Eq, Hash)]
 pub enum EntityType {
     Function(u32),
     Table(TableType),
@@ -19,16 +19,9 @@ pub enum EntityType {
 }
 
 // The forms of an import, as `Imports` has them.
-#[derive(Clone, Copy)]
+#[derive(Clone, Copy, Debug, PartialEq, Eq, Hash)]
 pub enum Form {
     Single,
     Compact1,
     Compact2,
-}
-
-// What the members of a list are: names with their entities, or names alone.
-#[derive(Clone, Copy)]
-pub enum Member {
-    Import,
-    Name,
 }

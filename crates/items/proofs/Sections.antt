@@ -2,7 +2,7 @@
 use mathlib.Core.Path.{◌≡◌, refl, ap, subst, ◌∙◌}
 use mathlib.Core.Option.{Option}
 use mathlib.Core.List.{List, [], ◌∷◌}
-use Prim.Native.Nat.{ℕ}
+use Prim.Native.Nat.{ℕ, ◌<◌, ◌≤◌}
 use native.Mathlib.Omega.{arith}
 use lib.ListN.{length, get_or, drop}
 use Rattle.format.specs.Basic.{find, find_none}
@@ -12,8 +12,8 @@ use Rattle.format.specs.Read.{drop_end, one_read, none_read}
 use Rattle.format.specs.Sequence.{dep_known}
 use Rattle.format.specs.Walk.{Walking, Walks, nothing_there, walks_as}
 use Rattle.format.specs.declared.Done.{Done}
-use Rattle.format.specs.declared.Walk.{Walk}
-use Rattle.format.specs.declared.Walk.TheVariants as walks
+use Rattle.format.specs.Walk.{Walk}
+use Rattle.std.specs.Prelude.{None}
 use Rattle.frames.specs.Ids.{id_of, ids, every, id_full}
 use Rattle.frames.specs.declared.SectionId.{SectionId}
 use Rattle.parts.specs.Reading.{Reading}
@@ -29,12 +29,12 @@ no_id x n = every (λ i. x ≡ id_of i → ⊥) n
 
 -- ---- words: the first is a section's id, or there is none, or it is none's
 
-pub word_missing : (t : List ℕ) {w old : List ℕ} {s : Done} {new : List ℕ} → length w ≡ 0 → Walks words (item_of t) (low_of t) w 0 old s new walks.No
+pub word_missing : (t : List ℕ) {w old : List ℕ} {s : Done} {new : List ℕ} → length w < 1 → Walks words (item_of t) (low_of t) w 0 old s new None
 unfolding words
 word_missing t {w} h = nothing_there (rw (drop_end w 0 (omega arith)))
 
 module _ (i : SectionId) where
-  pub word_section : {t w old : List ℕ} {s : Done} {new : List ℕ} {r : Walk} → (length w ≡ 0 → ⊥) → get_or w 0 0 ≡ id_of i → Writing (section i) t w 1 old s new r
+  pub word_section : {t w old : List ℕ} {s : Done} {new : List ℕ} {r : Walk} → 1 ≤ length w → get_or w 0 0 ≡ id_of i → Writing (section i) t w 1 old s new r
       → Walks words (item_of t) (low_of t) w 0 old s new r
   unfolding words texts_of item_of
   word_section {t} {w} {old} {s} h e x =
@@ -42,11 +42,11 @@ module _ (i : SectionId) where
       (λ a. lowest_behind t ((section i).texts a)) (adds_nil old s) x.writes
 
   -- one that holds no text
-  pub word_textless : (t : List ℕ) {w old : List ℕ} {s : Done} {new : List ℕ} {r : Walk} → (length w ≡ 0 → ⊥) → get_or w 0 0 ≡ id_of i → ((t : List ℕ) → Writing (section i) t w 1 old s new r)
+  pub word_textless : (t : List ℕ) {w old : List ℕ} {s : Done} {new : List ℕ} {r : Walk} → 1 ≤ length w → get_or w 0 0 ≡ id_of i → ((t : List ℕ) → Writing (section i) t w 1 old s new r)
       → Walks words (item_of t) (low_of t) w 0 old s new r
   word_textless t h e x = word_section h e (x t)
 
-pub word_other : (t : List ℕ) {w old : List ℕ} {s : Done} {new : List ℕ} → (length w ≡ 0 → ⊥) → NoId (get_or w 0 0) → Walks words (item_of t) (low_of t) w 0 old s new walks.No
+pub word_other : (t : List ℕ) {w old : List ℕ} {s : Done} {new : List ℕ} → 1 ≤ length w → NoId (get_or w 0 0) → Walks words (item_of t) (low_of t) w 0 old s new None
 unfolding words
 word_other t {w} h n = nothing_there (rw (none_read id_word id_of (λ i. refl) w 0 (omega arith) (no_id (get_or w 0 0) n)))
 
@@ -59,6 +59,6 @@ byte_section i {b = b} {old} {s} {cur} {u} a e x =
     walks_as (λ x. (i, x)) (ap (λ (o : Option SectionId). items_of o b) (ap (find id_of ids) e ∙ id_full i)) (λ x. refl) (λ x. refl) (subst (λ (k : ℕ). Appends (k ∷ []) old s cur u) e a)
     (x.reads (omega arith))
 
-pub byte_other : (id : ℕ) {b old : List ℕ} {s : Done} {new : List ℕ} → NoId id → Walking (begins_in id) record_of silent b 0 old s new walks.No
+pub byte_other : (id : ℕ) {b old : List ℕ} {s : Done} {new : List ℕ} → NoId id → Walking (begins_in id) record_of silent b 0 old s new None
 unfolding begins_in
 byte_other id n = nothing_there (rw (find_none id_of ids id (no_id id n)))

@@ -9,7 +9,7 @@ ghost use Rattle.items.specs.Record.{words as words_of, item_of, low_of, begins_
 ghost use Rattle.items.specs.Judging.{Judges, Tried, Puts};
 ghost use Rattle.items.specs.Start.{Starts};
 
-use format::{Done, NO_REFUSAL, Walk, append_word, copy, count, low};
+use format::{Done, NO_REFUSAL, Refusal, Walk, append, copy};
 use plain::is_plain;
 
 // Document 01, Records: of words.
@@ -25,16 +25,13 @@ const ITEM_MOST: usize = 65536;
 pub fn walk_words(words: &[u32], text: &[u8], out: &mut [u8], s: Done) -> Walk
     ensures { Walks words_of (item_of text.now) (low_of text.now) words.now 0 out.old s out.new result }
 {
-    if words.len() == 0 {
-        return Walk::No;
-    }
-    match words[0] {
-        1 => groups::walk_words(words, 1, out, s),
-        2 => imports::walk_words(words, 1, text, out, s),
-        4 => tables::walk_words(words, 1, text, out, s),
-        9 => elements::walk_words(words, 1, text, out, s),
-        11 => data::walk_words(words, 1, text, out, s),
-        _ => Walk::No,
+    match words {
+        [1, ..] => groups::walk_words(words, 1, out, s),
+        [2, ..] => imports::walk_words(words, 1, text, out, s),
+        [4, ..] => tables::walk_words(words, 1, text, out, s),
+        [9, ..] => elements::walk_words(words, 1, text, out, s),
+        [11, ..] => data::walk_words(words, 1, text, out, s),
+        _ => None,
     }
 }
 
@@ -43,22 +40,15 @@ pub fn walk_bytes(id: u8, bytes: &[u8], out: &mut [u32], s: Done) -> Walk
     requires { length bytes.now ≤ text_most }
     ensures { Walking (begins_in id) record_of silent bytes.now 0 out.old s out.new result }
 {
-    let t = append_word(id as u32, out, s);
+    let t = append(id as u32, out, s);
     match id {
         1 => groups::walk_bytes(bytes, 0, out, t),
         2 => imports::walk_bytes(bytes, 0, out, t),
         4 => tables::walk_bytes(bytes, 0, out, t),
         9 => elements::walk_bytes(bytes, 0, out, t),
         11 => data::walk_bytes(bytes, 0, out, t),
-        _ => Walk::No,
+        _ => None,
     }
-}
-
-// What a record and its text draw of 2 to 6; or none of them, and the item's length.
-#[derive(Clone, Copy)]
-pub enum Judged {
-    Refused(u32),
-    Length(usize),
 }
 
 // The refusal that judging starts with, above which none is looked for. All texts of an import are names, and where its text is plain, none of them draws 4: they
@@ -70,46 +60,39 @@ fn start(words: &[u32], text: &[u8]) -> u32
     if TEXT_MOST < text.len() {
         return 0;
     }
-    if words.len() == 0 {
+    if words.is_empty() || words[0] != 2 || words.len() < text.len() / 32 {
         return NO_REFUSAL;
     }
-    if words[0] != 2 {
-        return NO_REFUSAL;
-    }
-    if words.len() < text.len() / 32 {
-        return NO_REFUSAL;
-    }
-    if is_plain(text) {
-        return 4;
-    }
-    NO_REFUSAL
+    if is_plain(text) { 4 } else { NO_REFUSAL }
 }
 
-// Measured by a walk, which leaves the item of a record that draws none of them in `tried`, where there is room.
-pub fn judge(words: &[u32], text: &[u8], tried: &mut [u8]) -> Judged
+// What a record and its text draw of 2 to 6; or none of them, and the item's length. Measured by a walk, which leaves the item of a record that draws none of them in
+// `tried`, where there is room.
+pub fn judge(words: &[u32], text: &[u8], tried: &mut [u8]) -> Result<usize, Refusal>
     ensures { Judges words.now text.now tried.old tried.new result }
 {
     if WORDS_MOST < words.len() {
-        return Judged::Refused(2);
+        return Err(Refusal::NoRecord);
     }
     let from = start(words, text);
-    let Walk::Got(end, s) = walk_words(words, text, tried, Done::new(from)) else {
-        return Judged::Refused(2);
+    let Some((end, s)) = walk_words(words, text, tried, Done::new(from)) else {
+        return Err(Refusal::NoRecord);
     };
     if end != words.len() {
-        return Judged::Refused(2);
+        return Err(Refusal::NoRecord);
     }
     if TEXT_MOST < text.len() {
-        return Judged::Refused(3);
+        return Err(Refusal::BadText);
     }
-    if low(s) < from {
-        return Judged::Refused(low(s));
+    let low = s.low();
+    if low < from {
+        return Err(Refusal::of(low));
     }
-    let n = count(s);
+    let n = s.count();
     if ITEM_MOST < n {
-        return Judged::Refused(6);
+        return Err(Refusal::ItemLarge);
     }
-    Judged::Length(n)
+    Ok(n)
 }
 
 // Writes the item of a record that draws none of them, where there is room: as judging left it, or by a second walk where that had no room. No refusal can be
@@ -118,7 +101,7 @@ pub fn put_item(words: &[u32], text: &[u8], n: usize, tried: &[u8], out: &mut [u
     ensures { Tried words.now text.now n tried.now → Puts words.now text.now out.old out.new }
 {
     if n <= tried.len() {
-        copy(&tried[0..n], out);
+        let _ = copy(&tried[..n], out);
         return;
     }
     walk_words(words, text, out, Done::new(0));

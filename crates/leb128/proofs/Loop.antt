@@ -20,7 +20,7 @@ use Rattle.leb128.specs.Leb.{within, leb, last_of, join, wide, short, taken}
 use Rattle.leb128.proofs.LebLaws.{wide_last, wide_over, wide_more, wide_long, wide_form}
 use Rattle.leb128.specs.Parts.{join_by, parts_of, short_at, WholeByte, CutByte}
 use Rattle.leb128.specs.declared.Parts.{Parts}
-use Rattle.leb128.specs.declared.Parts.TheVariants.{Nothing}
+use Rattle.std.specs.Prelude.{Option, None}
 use Rattle.leb128.proofs.Reading.{join_start, join_more, below, behind, within_whole}
 
 -- of a number that begins at `at`, k bits are read, v, and the rest stands from i on
@@ -51,7 +51,7 @@ reads_start {s} {N} {xs} {at} h l =
     record { rest = rw e (map_start (wide s N (drop at xs))); small = pow_pos 0; room = omega arith; after = omega arith; groups = omega arith; cut = h; few = l }
 
 -- nothing is read
-none : (s : Bool) (N : ℕ) (xs : List ℕ) (at : ℕ) → wide s N (drop at xs) ≡ fail → Nothing ≡ parts_of xs (short s N (drop at xs))
+none : (s : Bool) (N : ℕ) (xs : List ℕ) (at : ℕ) → wide s N (drop at xs) ≡ fail → None ≡ parts_of xs (short s N (drop at xs))
 none s N xs at e = sym (rw e)
 
 -- z is read, up to p, in n bytes: it is in its shortest form or not
@@ -79,7 +79,7 @@ found_at s N xs at p z e h l = ⊎_elim few all (fits_or (7 * length (leb s z)) 
 
 module _ {s : Bool} {N : ℕ} {xs : List ℕ} {at v k i : ℕ} (R : Reads s N xs at v k i) where
   -- no byte is left
-  pub reads_end : length xs ≤ i → Nothing ≡ parts_of xs (short s N (drop at xs))
+  pub reads_end : length xs ≤ i → None ≡ parts_of xs (short s N (drop at xs))
   reads_end h = none s N xs at (R.rest ∙ rw (drop_end xs i h, wide_none s (N - k)))
 
   -- a last byte
@@ -112,7 +112,7 @@ module _ {s : Bool} {N : ℕ} {xs : List ℕ} {at v k i : ℕ} (R : Reads s N xs
       pub whole_asked : WholeByte k (get_or xs i 0) (bit_or v (bit_and (get_or xs i 0) 127 * 2 ^ k % 2 ^ 64))
       whole_asked = record { fits = omega (arith, R.few, R.cut, R.groups); groups = omega (arith, R.groups); small = h; is = rw (put, same) (digits_div (get_or xs i 0) R.small) }
 
-      pub whole_read : i < length xs → {r : Parts} → r ≡ short_at s k (join_by k (last_of s (get_or xs i 0)) (bit_or v (bit_and (get_or xs i 0) 127 * 2 ^ k % 2 ^ 64) % 2 ^ k)) (i + 1)
+      pub whole_read : i < length xs → {r : Option (Parts × ℕ)} → r ≡ short_at s k (join_by k (last_of s (get_or xs i 0)) (bit_or v (bit_and (get_or xs i 0) 127 * 2 ^ k % 2 ^ 64) % 2 ^ k)) (i + 1)
           → r ≡ parts_of xs (short s N (drop at xs))
       whole_read b e =
           let low : bit_or v (bit_and (get_or xs i 0) 127 * 2 ^ k % 2 ^ 64) % 2 ^ k ≡ v = rw (put, same) (digits_mod (get_or xs i 0) R.small) in
@@ -143,7 +143,7 @@ module _ {s : Bool} {N : ℕ} {xs : List ℕ} {at v k i : ℕ} (R : Reads s N xs
   -- the last group that the width allows
   module _ (cut : N < k + 7) where
     -- too many bytes
-    pub reads_long : i < length xs → 128 ≤ get_or xs i 0 → Nothing ≡ parts_of xs (short s N (drop at xs))
+    pub reads_long : i < length xs → 128 ≤ get_or xs i 0 → None ≡ parts_of xs (short s N (drop at xs))
     reads_long b h = none s N xs at (R.rest ∙ rw (drop_more xs i b, wide_long s (N - k) (get_or xs i 0) (drop (i + 1) xs) h (omega (arith, R.room))))
 
     pub last_asked : get_or xs i 0 < 128 → CutByte (N - k) k (get_or xs i 0) v
@@ -153,10 +153,10 @@ module _ {s : Bool} {N : ℕ} {xs : List ℕ} {at v k i : ℕ} (R : Reads s N xs
   bits_left = omega (arith, R.room)
 
   pub last_read : i < length xs → get_or xs i 0 < 128
-      → {r : Parts} → r ≡ cond (within s (N - k) (last_of s (get_or xs i 0))) (short_at s k (join_by k (last_of s (get_or xs i 0)) v) (i + 1)) Nothing → r ≡ parts_of xs (short s N (drop at xs))
+      → {r : Option (Parts × ℕ)} → r ≡ cond (within s (N - k) (last_of s (get_or xs i 0))) (short_at s k (join_by k (last_of s (get_or xs i 0)) v) (i + 1)) None → r ≡ parts_of xs (short s N (drop at xs))
   last_read b h e = e ∙ go (within s (N - k) (last_of s (get_or xs i 0))) refl
     where
       go : (t : Bool) → within s (N - k) (last_of s (get_or xs i 0)) ≡ t
-          → cond t (short_at s k (join_by k (last_of s (get_or xs i 0)) v) (i + 1)) Nothing ≡ parts_of xs (short s N (drop at xs))
+          → cond t (short_at s k (join_by k (last_of s (get_or xs i 0)) v) (i + 1)) None ≡ parts_of xs (short s N (drop at xs))
       go true w = reads-last b h w
       go false w = none s N xs at (R.rest ∙ rw (drop_more xs i b, wide_over s (N - k) (get_or xs i 0) (drop (i + 1) xs) h w))

@@ -18,9 +18,9 @@ use lib.Pow.{pow-add, pow_pos, pow_mono, shl_exact, split}
 use Rattle.format.specs.Write.{fits_or}
 use Rattle.leb128.specs.Leb.{within, leb, sign_bits, last_of, join}
 use Rattle.leb128.proofs.LebLaws.{leb_some, limit_of, limit_is, bytes_at_most, bytes_above}
-use Rattle.leb128.specs.Parts.{by_sign, ones_of, join_by, parts_at, short_at, Topped, WholeByte, CutByte}
+use Rattle.leb128.specs.Parts.{by_sign, ones_of, join_by, parts, short_at, Topped, WholeByte, CutByte}
 use Rattle.leb128.specs.declared.Parts.{Parts}
-use Rattle.leb128.specs.declared.Parts.TheVariants.{Value, Nothing}
+use Rattle.std.specs.Prelude.{Option, None, Some}
 use Rattle.leb128.proofs.Writing.{turn_of, turned, length_sign}
 
 -- ---- bits above a place
@@ -210,12 +210,12 @@ module _ (s : Bool) (b : ℕ) {neg : Bool} {f : ℕ} (is : neg ≡ s && is_le 64
     pub whole_topped : Topped k (bit_xor b f) (bit_xor v o)
     whole_topped = record { fits = omega (arith, w.fits); groups = w.groups; is = rw whole_is (digits_div (bit_xor b f) (turn_small neg k (v % 2 ^ k) (low_part k v))) }
 
-    pub whole_value : (p : ℕ) {r : Parts} → r ≡ short_at s k (by_sign neg (bit_xor v o)) p → r ≡ short_at s k (join_by k (last_of s b) (v % 2 ^ k)) p
+    pub whole_value : (p : ℕ) {r : Option (Parts × ℕ)} → r ≡ short_at s k (by_sign neg (bit_xor v o)) p → r ≡ short_at s k (join_by k (last_of s b) (v % 2 ^ k)) p
     whole_value p e = e ∙ ap (λ (z : ℤ). short_at s k z p) (rw whole_is (join_top w.small k (v % 2 ^ k)))
 
   -- N bits of it within the width, and v read below it
   module _ {N k v j : ℕ} (c : CutByte N k b v) (left : j ≡ N - sign_bits s) where
-    pub over_width : (p : ℕ) → (bit_xor b f / 2 ^ j ≡ 0 → ⊥) → Nothing ≡ cond (within s N (last_of s b)) (short_at s k (join_by k (last_of s b) v) p) Nothing
+    pub over_width : (p : ℕ) → (bit_xor b f / 2 ^ j ≡ 0 → ⊥) → None ≡ cond (within s N (last_of s b)) (short_at s k (join_by k (last_of s b) v) p) None
     over_width p n = rw (within_top c.small N, ← left, le-ltb _ _ (some_above (bit_xor b f) j n))
 
     module _ (none : bit_xor b f / 2 ^ j ≡ 0) where
@@ -233,8 +233,8 @@ module _ (s : Bool) (b : ℕ) {neg : Bool} {f : ℕ} (is : neg ≡ s && is_le 64
         pub part_topped : Topped k (bit_xor b f) (bit_or (bit_xor b f * 2 ^ k % 2 ^ 64) (bit_xor v o))
         part_topped = record { fits = omega (arith, c.some, c.fits); groups = c.groups; is = rw part_is (digits_div (bit_xor b f) (turn_small neg k v c.below)) }
 
-        pub part_value : (p : ℕ) {r : Parts} → r ≡ short_at s k (by_sign neg (bit_or (bit_xor b f * 2 ^ k % 2 ^ 64) (bit_xor v o))) p
-            → r ≡ cond (within s N (last_of s b)) (short_at s k (join_by k (last_of s b) v) p) Nothing
+        pub part_value : (p : ℕ) {r : Option (Parts × ℕ)} → r ≡ short_at s k (by_sign neg (bit_or (bit_xor b f * 2 ^ k % 2 ^ 64) (bit_xor v o))) p
+            → r ≡ cond (within s N (last_of s b)) (short_at s k (join_by k (last_of s b) v) p) None
         part_value p e =
             rw (within_top c.small N, ← left, lt-ltb _ _ (none_above (bit_xor b f) j none))
             (e ∙ ap (λ (z : ℤ). short_at s k z p) (rw part_is (join_top c.small k v)))
@@ -253,20 +253,20 @@ module _ (k : ℕ) (h : k < 64) where
 
 -- ---- the answer
 
-module _ (s neg : Bool) (a k p : ℕ) where
+module _ (s : Bool) (v : Parts) (k p : ℕ) where
   -- by the test
-  short_is : {t : Bool} → is_le (7 * length (leb s (pos a))) k ≡ t → short_at s k (by_sign neg a) p ≡ cond t Nothing (Value neg a p)
-  short_is {t} e = rw (length_sign s neg a, e) (ap (cond t Nothing) (parts neg))
+  short_is : {t : Bool} → is_le (7 * length (leb s (pos v.magnitude))) k ≡ t → short_at s k (by_sign v.neg v.magnitude) p ≡ cond t None (Some (v, p))
+  short_is {t} e = rw (length_sign s v.neg v.magnitude, e) (ap (λ (x : Parts). cond t None (Some (x, p))) (back v.neg v.magnitude))
     where
-      parts : (neg : Bool) → parts_at (by_sign neg a) p ≡ Value neg a p
-      parts true = refl
-      parts false = refl
+      back : (neg : Bool) (a : ℕ) → parts (by_sign neg a) ≡ record { neg = neg; magnitude = a }
+      back true a = refl
+      back false a = refl
 
-  pub short_less : {t : Bool} → t ≡ is_le (7 * length (leb s (pos a))) k → t ≡ true → Nothing ≡ short_at s k (by_sign neg a) p
+  pub short_less : {t : Bool} → t ≡ is_le (7 * length (leb s (pos v.magnitude))) k → t ≡ true → None ≡ short_at s k (by_sign v.neg v.magnitude) p
   short_less e y = sym (short_is (sym e ∙ y))
 
-  pub short_enough : {t : Bool} → t ≡ is_le (7 * length (leb s (pos a))) k → t ≡ false → Value neg a p ≡ short_at s k (by_sign neg a) p
+  pub short_enough : {t : Bool} → t ≡ is_le (7 * length (leb s (pos v.magnitude))) k → t ≡ false → Some (v, p) ≡ short_at s k (by_sign v.neg v.magnitude) p
   short_enough e n = sym (short_is (sym e ∙ n))
 
-  pub short_topped : {top : ℕ} → Topped k top a → (top ≡ 0 → ⊥) → Value neg a p ≡ short_at s k (by_sign neg a) p
-  short_topped t n = sym (short_is (needs_top s a k t.groups (λ e. n (sym t.is ∙ e))))
+  pub short_topped : {top : ℕ} → Topped k top v.magnitude → (top ≡ 0 → ⊥) → Some (v, p) ≡ short_at s k (by_sign v.neg v.magnitude) p
+  short_topped t n = sym (short_is (needs_top s v.magnitude k t.groups (λ e. n (sym t.is ∙ e))))

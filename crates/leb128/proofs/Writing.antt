@@ -15,7 +15,8 @@ use lib.IntN.{ℤ, pos}
 use lib.ListN.{length, set, length-set}
 use lib.Signed.{mag, shr_z}
 use Rattle.format.specs.Write.{Writes, over, writes, writes_not, write_one, todo, todo_start, todo_byte, todo_end, fits_or}
-use Rattle.format.specs.declared.Written.TheVariants.{Length, Short}
+use Rattle.std.specs.Prelude.{Ok, Err}
+use Rattle.format.specs.declared.refusal.Refusal.TheVariants.{OutputShort}
 use Rattle.leb128.specs.Leb.{limit, low, leb}
 use Rattle.leb128.proofs.LebLaws.{low_small, leb_last, leb_more, leb_some, limit_some, limit_of, bytes_at_most, bytes_above}
 use Rattle.leb128.specs.Parts.{by_sign, mag_sign, ones_of}
@@ -121,7 +122,7 @@ pub record PutTo (s neg : Bool) (a : ℕ) (xs : List ℕ) (w i : ℕ) (ys : List
 
 -- t is what the test for room says
 module _ (s neg : Bool) (a : ℕ) (xs : List ℕ) {t : Bool} (e : t ≡ le (length (leb s (pos a))) (length xs)) where
-  pub put_short : not t ≡ true → Writes (leb s (by_sign neg a)) xs xs Short
+  pub put_short : not t ≡ true → Writes (leb s (by_sign neg a)) xs xs (Err OutputShort)
   put_short n = let h = leb-false (length (leb s (pos a))) (length xs) (sym e ∙ not-true t n) in writes_not (omega (arith, length_sign s neg a))
 
   pub put_starts : not t ≡ false → PutTo s neg a xs a 0 xs
@@ -148,7 +149,7 @@ module _ {s neg : Bool} {a : ℕ} {xs : List ℕ} {w i : ℕ} {ys : List ℕ} (p
           inside = simp length-set (omega (arith, p.count, p.room, p.kept));
         }
 
-    pub put_ends : w < l → Writes (leb s (by_sign neg a)) xs (set ys i (bit_xor (bit_and w 127) f)) (Length (i + 1))
+    pub put_ends : w < l → Writes (leb s (by_sign neg a)) xs (set ys i (bit_xor (bit_and w 127) f)) (Ok (i + 1))
     put_ends h =
         let end = leb_end s neg w turn (omega arith) in
         writes p.room (omega (arith, p.count, ap length end))
@@ -156,8 +157,8 @@ module _ {s neg : Bool} {a : ℕ} {xs : List ℕ} {w i : ℕ} {ys : List ℕ} (p
 
 -- a number that a last byte holds
 module _ (s neg : Bool) (a : ℕ) (xs : List ℕ) where
-  pub byte_short : length xs ≡ 0 → Writes (leb s (by_sign neg a)) xs xs Short
+  pub byte_short : length xs ≡ 0 → Writes (leb s (by_sign neg a)) xs xs (Err OutputShort)
   byte_short h = writes_not (omega (arith, leb_some s (by_sign neg a)))
 
-  pub byte_put : {l : ℕ} → l ≡ limit s → a < l → (length xs ≡ 0 → ⊥) → {f : ℕ} → f ≡ ones_of neg 7 → Writes (leb s (by_sign neg a)) xs (set xs 0 (bit_xor (bit_and a 127) f)) (Length 1)
+  pub byte_put : {l : ℕ} → l ≡ limit s → a < l → (length xs ≡ 0 → ⊥) → {f : ℕ} → f ≡ ones_of neg 7 → Writes (leb s (by_sign neg a)) xs (set xs 0 (bit_xor (bit_and a 127) f)) (Ok 1)
   byte_put e h n {f} turn = rw (leb_end s neg a turn (omega arith)) (write_one (bit_xor (bit_and a 127) f) xs (omega (arith, n)))

@@ -1,11 +1,10 @@
 -- A number by its sign and its magnitude, as the code has it, and what was read of some bytes in that form.
-use Rattle.std.specs.Prelude.{ℕ, ◌+◌, ◌-◌, ◌*◌, ◌/◌, ◌%◌, ◌≤◌, ◌<◌, ◌^◌, ◌≡◌, refl, Bool, true, false, cond, List, leb as is_le, ℤ, pos, negsuc, length}
+use Rattle.std.specs.Prelude.{ℕ, ◌+◌, ◌-◌, ◌*◌, ◌/◌, ◌%◌, ◌≤◌, ◌<◌, ◌^◌, ◌≡◌, refl, Bool, true, false, cond, List, leb as is_le, ℤ, pos, negsuc, length, Option, None, Some}
 use Rattle.std.specs.Int.Signed.{mag}
 use Rattle.format.specs.Parsed.{Parsed, fail, got}
 use Rattle.format.specs.Read.{place_of}
 use Rattle.leb128.specs.Leb.{leb}
 use Rattle.leb128.specs.declared.Parts.{Parts}
-use Rattle.leb128.specs.declared.Parts.TheVariants as parts
 
 abbrev pub by_sign : Bool → ℕ → ℤ
 by_sign false a = pos a
@@ -25,17 +24,17 @@ abbrev pub join_by : ℕ → ℤ → ℕ → ℤ
 join_by n (pos m) d = pos (m * 2 ^ n + d)
 join_by n (negsuc m) d = negsuc (m * 2 ^ n + (2 ^ n - 1 - d))
 
-abbrev pub parts_at : ℤ → ℕ → Parts
-parts_at (pos a) p = parts.Value false a p
-parts_at (negsuc a) p = parts.Value true a p
+abbrev pub parts : ℤ → Parts
+parts (pos a) = record { neg = false; magnitude = a }
+parts (negsuc a) = record { neg = true; magnitude = a }
 
-abbrev pub parts_of : List ℕ → Parsed ℤ → Parts
-parts_of s fail = parts.Nothing
-parts_of s (got z r) = parts_at z (place_of s r)
+abbrev pub parts_of : List ℕ → Parsed ℤ → Option (Parts × ℕ)
+parts_of s fail = None
+parts_of s (got z r) = Some (parts z, place_of s r)
 
 -- z, read up to p, unless k / 7 bytes were enough for it: then it is not in its shortest form
-abbrev pub short_at : Bool → ℕ → ℤ → ℕ → Parts
-short_at s k z p = cond (is_le (7 * length (leb s z)) k) parts.Nothing (parts_at z p)
+abbrev pub short_at : Bool → ℕ → ℤ → ℕ → Option (Parts × ℕ)
+short_at s k z p = cond (is_le (7 * length (leb s z)) k) None (Some (parts z, p))
 
 -- ---- what the steps of the reader ask
 

@@ -8,9 +8,9 @@ mod writer;
 pub use reader::{decode, is_within};
 pub use writer::{encode, size};
 
-// A number by its sign and its magnitude, and where it ended.
-#[derive(Clone, Copy)]
-pub enum Parts {
-    Value(bool, u64, usize),
-    Nothing,
+// A number by its sign and its magnitude.
+#[derive(Clone, Copy, Debug, PartialEq, Eq)]
+pub struct Parts {
+    pub neg: bool,
+    pub magnitude: u64,
 }

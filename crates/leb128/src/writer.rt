@@ -4,7 +4,8 @@ ghost use Rattle.format.specs.Write.{Writes};
 ghost use Rattle.leb128.specs.Leb.{limit, leb};
 ghost use Rattle.leb128.specs.Parts.{by_sign, ones_of};
 
-use format::Written;
+use crate::Parts;
+use format::{Refusal, Written};
 
 // What a last byte holds is below this.
 fn last_limit(signed: bool) -> u64
@@ -27,6 +28,7 @@ pub fn size(signed: bool, a: u64) -> usize
     let limit = last_limit(signed);
     let mut w = a;
     let mut n = 1;
+    // What is left of the number ends the loop, no count does.
     while limit <= w {
         w = w / 128;
         n += 1;
@@ -38,42 +40,40 @@ pub fn size(signed: bool, a: u64) -> usize
 fn fits(signed: bool, a: u64, room: usize) -> bool
     ensures { result ≡ is_le (length (leb signed (pos a))) room }
 {
-    if 10 <= room {
-        return true;
-    }
-    size(signed, a) <= room
+    10 <= room || size(signed, a) <= room
 }
 
 // Measured first, so that a refusal changes nothing, and then written forwards.
-fn encode_long(signed: bool, neg: bool, a: u64, out: &mut [u8]) -> Written
-    ensures { Writes (leb signed (by_sign neg a)) out.old out.new result }
+fn encode_long(signed: bool, v: Parts, out: &mut [u8]) -> Written
+    ensures { Writes (leb signed (by_sign v.neg v.magnitude)) out.old out.new result }
 {
-    if !fits(signed, a, out.len()) {
-        return Written::Short;
+    if !fits(signed, v.magnitude, out.len()) {
+        return Err(Refusal::OutputShort);
     }
     let limit = last_limit(signed);
-    let turn = flip(neg);
-    let mut w = a;
+    let turn = flip(v.neg);
+    let mut w = v.magnitude;
     let mut i = 0;
+    // The same.
     while limit <= w {
         out[i] = ((w & 0x7F) as u8 ^ turn) | 0x80;
         w = w >> 7;
         i += 1;
     }
     out[i] = (w & 0x7F) as u8 ^ turn;
-    Written::Length(i + 1)
+    Ok(i + 1)
 }
 
 // Most numbers take one byte.
-pub fn encode(signed: bool, neg: bool, a: u64, out: &mut [u8]) -> Written
-    ensures { Writes (leb signed (by_sign neg a)) out.old out.new result }
+pub fn encode(signed: bool, v: Parts, out: &mut [u8]) -> Written
+    ensures { Writes (leb signed (by_sign v.neg v.magnitude)) out.old out.new result }
 {
-    if last_limit(signed) <= a {
-        return encode_long(signed, neg, a, out);
+    if last_limit(signed) <= v.magnitude {
+        return encode_long(signed, v, out);
     }
-    if out.len() == 0 {
-        return Written::Short;
+    if out.is_empty() {
+        return Err(Refusal::OutputShort);
     }
-    out[0] = (a & 0x7F) as u8 ^ flip(neg);
-    Written::Length(1)
+    out[0] = (v.magnitude & 0x7F) as u8 ^ flip(v.neg);
+    Ok(1)
 }

@@ -7,19 +7,18 @@ use native.Mathlib.Omega.{arith}
 use lib.Bits.{bit_and, and_mask}
 use lib.Dec.{eqb}
 use lib.ListN.{length, get_or}
-use borrow.Author.Tests.{lt-ltb, le-ltb}
+use borrow.Author.Tests.{lt-ltb}
 use Rattle.format.specs.Parsed.{map, map-map}
 use Rattle.format.specs.Format.{Format}
 use Rattle.format.specs.Basic.{empty}
 use Rattle.format.specs.Combine.{dep_print}
 use Rattle.format.specs.Count.{Appends, silent}
-use Rattle.format.specs.Read.{drop_more}
-use Rattle.format.specs.Sequence.{Joins, pair_joins, dep_known, first_missing, second_follows}
+use Rattle.format.specs.Sequence.{Joins, pair_joins, dep_known, second_follows}
 use Rattle.format.specs.Dispatch.{Opens, opened}
-use Rattle.format.specs.Walk.{Walks, gone, nothing_there, value_there}
+use Rattle.format.specs.Walk.{Walks, gone, value_there}
 use Rattle.format.specs.declared.Done.{Done}
-use Rattle.format.specs.declared.Walk.{Walk}
-use Rattle.format.specs.declared.Walk.TheVariants as walks
+use Rattle.format.specs.Walk.{Walk}
+use Rattle.std.specs.Prelude.{Some}
 use Rattle.leb128.proofs.Formats.{u64}
 use Rattle.words.specs.Words.{unused}
 use Rattle.words.specs.Number64.{number64}
@@ -61,19 +60,16 @@ module _ (D : Way) where
       (sizes D.to D.to_none b).print silent
   sizes_join b = pair_joins D.from D.to.print (behind D.from D.from_none b) (behind D.to D.to_none b).print
 
-  pub no_minimum : (b : Bool) {w : List ℕ} {at : ℕ} {old : List ℕ} {s : Done} {new : List ℕ} {r : Walk} → Size w at old s new r → r ≡ walks.No → Sizes b w at old s new walks.No
-  no_minimum b h e = first_missing (sizes_join b) h e
-
   pub rest_follows : (c b : Bool) {w : List ℕ} {at : ℕ} {old : List ℕ} {s : Done} {cur : List ℕ} {r : Walk} {p : ℕ} {u : Done} {new : List ℕ} {r' : Walk} → Size w at old s cur r
-      → r ≡ walks.Got p u → b ≡ c → Rest c w p cur u new r' → Sizes b w at old s new r'
+      → r ≡ Some (p, u) → b ≡ c → Rest c w p cur u new r' → Sizes b w at old s new r'
   rest_follows c b {w} {cur = cur} {p = p} {u} {new} {r'} h e i k = second_follows (sizes_join b) h e (subst (λ (c : Bool). Rest c w p cur u new r') (sym i) k)
 
 -- no maximum: of no bytes two words are appended; and of two unused words nothing
 module _ (b : Bool) (i : b ≡ false) {w : List ℕ} {at : ℕ} {old : List ℕ} {s : Done} {new : List ℕ} {r : Walk} {p : ℕ} {u : Done} where
-  pub none_there : {cur : List ℕ} {v : Done} → Size of_bytes w at old s cur r → r ≡ walks.Got p u → Appends (0 ∷ 0 ∷ []) cur u new v → Sizes of_bytes b w at old s new (walks.Got p v)
+  pub none_there : {cur : List ℕ} {v : Done} → Size of_bytes w at old s cur r → r ≡ Some (p, u) → Appends (0 ∷ 0 ∷ []) cur u new v → Sizes of_bytes b w at old s new (Some (p, v))
   none_there {cur} h e a = rest_follows of_bytes false b h e i (value_there {a = tt} a refl (gone u64 h e).place)
 
-  pub unused_follow : {r' : Walk} → Size of_words w at old s new r → r ≡ walks.Got p u → ((out : List ℕ) → Walks unused (λ x. []) silent w p out u out r') → Sizes of_words b w at old s new r'
+  pub unused_follow : {r' : Walk} → Size of_words w at old s new r → r ≡ Some (p, u) → ((out : List ℕ) → Walks unused (λ x. []) silent w p out u out r') → Sizes of_words b w at old s new r'
   unused_follow h e k = rest_follows of_words false b h e i (k new)
 
 -- ---- both behind their flags
@@ -92,11 +88,8 @@ module _ (D : Way) where
         draws = λ p. refl;
       }
 
-  module _ {w : List ℕ} {at : ℕ} {old : List ℕ} {s : Done} {new : List ℕ} (h : at < length w) where
-    pub flags_large : (get_or w at 0 / 8 ≡ 0 → ⊥) → Whole D w at old s new walks.No
-    flags_large n = nothing_there (rw (drop_more w at h, le-ltb (get_or w at 0) 8 (omega arith)))
-
-    pub sizes_follow : {cur : List ℕ} {t : Done} {r : Walk} → get_or w at 0 / 8 ≡ 0 → Appends (get_or w at 0 ∷ []) old s cur t → Sizes D (eqb (bit_and (get_or w at 0) 1) 1) w (at + 1) cur t new r
-        → Whole D w at old s new r
-    sizes_follow {cur} {t} {r} l a k =
-        opened (flags_open (get_or w at 0) (omega arith)) refl h (subst (λ (c : Bool). Sizes D c w (at + 1) cur t new r) (ap (λ (n : ℕ). eqb n 1) (and_mask (get_or w at 0) 1)) k) a
+  -- x is the byte or the word at the place
+  pub sizes_follow : {w : List ℕ} {at : ℕ} {old : List ℕ} {s : Done} {new : List ℕ} {cur : List ℕ} {t : Done} {r : Walk} (x : ℕ) → at < length w → x ≡ get_or w at 0 → x / 8 ≡ 0
+      → Appends (x ∷ []) old s cur t → Sizes D (eqb (bit_and x 1) 1) w (at + 1) cur t new r → Whole D w at old s new r
+  sizes_follow {w} {at} {old} {s} {new} {cur} {t} {r} x h y l a k =
+      opened (flags_open x (omega arith)) (sym y) h (subst (λ (c : Bool). Sizes D c w (at + 1) cur t new r) (ap (λ (n : ℕ). eqb n 1) (and_mask x 1)) k) a

@@ -1,6 +1,6 @@
 -- Limits, which tables and memories share (document 01, Records, Table type and Memory type; Items to bytes, Table type; Core Specification 3.0, Binary
 -- Format, Types, Limits): flags, minimum, maximum if present. Both are any 64-bit numbers, in no order, whatever the flags say. Assumes nothing.
-use Rattle.std.specs.Prelude.{◌≡◌, refl, Bool, true, false, ℕ}
+use Rattle.std.specs.Prelude.{◌≡◌, refl, Bool, true, false, ℕ, Option, None, Some}
 use Rattle.std.proofs.Common.{ap}
 use Rattle.format.specs.Format.{Format}
 use Rattle.format.specs.Basic.{empty}
@@ -10,33 +10,31 @@ use Rattle.leb128.proofs.Formats.{u64}
 use Rattle.words.specs.Words.{unused}
 use Rattle.words.specs.Number64.{number64}
 use Rattle.limits.specs.Flags.{Flags, flags}
-use Rattle.limits.specs.declared.Maximum.{Maximum}
-use Rattle.limits.specs.declared.Maximum.TheVariants.{None, Some}
 
 pub record Limits : Type 0 where
   pub wide : Bool
   pub shared : Bool
   pub minimum : ℕ
-  pub maximum : Maximum
+  pub maximum : Option ℕ
 
 -- what stands behind the minimum
 abbrev pub Behind : Bool → Type 0
 Behind true = ℕ
 Behind false = Unit {0}
 
-abbrev pub is_present : Maximum → Bool
+abbrev pub is_present : Option ℕ → Bool
 is_present None = false
 is_present (Some n) = true
 
-abbrev pub maximum_to : (m : Maximum) → Behind (is_present m)
+abbrev pub maximum_to : (m : Option ℕ) → Behind (is_present m)
 maximum_to None = tt
 maximum_to (Some n) = n
 
-abbrev pub maximum_of : (b : Bool) → Behind b → Maximum
+abbrev pub maximum_of : (b : Bool) → Behind b → Option ℕ
 maximum_of true n = Some n
 maximum_of false u = None
 
-maximum_of_to : (m : Maximum) → maximum_of (is_present m) (maximum_to m) ≡ m
+maximum_of_to : (m : Option ℕ) → maximum_of (is_present m) (maximum_to m) ≡ m
 maximum_of_to None = refl
 maximum_of_to (Some n) = refl
 
@@ -50,7 +48,7 @@ abbrev pub limits_of : Parts → Limits
 limits_of p = record { wide = p.0.wide; shared = p.0.shared; minimum = p.1.0; maximum = maximum_of p.0.present p.1.1 }
 
 pub limits_of_to : (l : Limits) → limits_of (limits_to l) ≡ l
-limits_of_to l = ap (λ (m : Maximum). record { wide = l.wide; shared = l.shared; minimum = l.minimum; maximum = m }) (maximum_of_to l.maximum)
+limits_of_to l = ap (λ (m : Option ℕ). record { wide = l.wide; shared = l.shared; minimum = l.minimum; maximum = m }) (maximum_of_to l.maximum)
 
 pub limits_to_of : (p : Parts) → limits_to (limits_of p) ≡ p
 limits_to_of p = go p.0.present p.1.1

@@ -6,10 +6,3 @@ mod writer;
 
 pub use reader::read_limits;
 pub use writer::walk_limits;
-
-// A maximum size, or that there is none.
-#[derive(Clone, Copy)]
-pub enum Maximum {
-    None,
-    Some(u64),
-}

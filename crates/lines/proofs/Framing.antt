@@ -9,12 +9,11 @@ use native.Mathlib.Omega.{arith}
 use lib.Dec.{leb}
 use lib.ListN.{length, take, drop, get_or, length-append, length-drop}
 use lib.Seq.{take_at, drop_at, drop-drop, drop-cons}
-use mir.Syntax.{w8, w64}
+use mir.Syntax.{w8}
 use mir.Val.{Fits}
 use borrow.Author.Tests.{leb-true, lt-ltb, eq-eqb, ne_eqb, not-true, not-false}
 use borrow.Rule.Slice.PartMut.{mid_of}
 use Rattle.format.specs.Parsed.{Parsed, fail, got, bind}
-use Rattle.format.specs.Format.{Format}
 use Rattle.format.specs.Lists.{prints, times_only}
 use Rattle.format.specs.Write.{rest_lent}
 use Rattle.frames.specs.Frames.{word32}
@@ -23,12 +22,12 @@ use Rattle.hex_text.specs.Frame.{adds, finish_told, word16, word_list, whole, fr
 
 -- ---- the kind
 
-pub kind_none : (s : List ℕ) → length s ≡ 0 → frame_of s ≡ none
+pub kind_none : (s : List ℕ) → length s < 1 → frame_of s ≡ none
 unfolding frame_of
 kind_none [] h = refl
 kind_none (x ∷ s) h = absurd (omega arith)
 
-module _ (s : List ℕ) (h : length s ≡ 0 → ⊥) where
+module _ (s : List ℕ) (h : 1 ≤ length s) where
   pub kind_add : get_or s 0 0 ≡ 1 → frame_of s ≡ whole adds (word_list.parse (drop 1 s))
   unfolding frame_of
   kind_add e = ap frame_of (drop-cons s 0 0 (omega arith)) ∙ rw (eq-eqb (get_or s 0 0) 1 e)
@@ -44,22 +43,8 @@ module _ (s : List ℕ) (h : length s ≡ 0 → ⊥) where
 
 -- ---- the count, the words and the text
 
--- bytes that are fewer than any value's are none's
-pub few_fail : {A : Type 0} (F : Format A) (n : ℕ) → ((a : A) → n ≤ length (F.print a)) → (s : List ℕ) → length s < n → F.parse s ≡ fail
-few_fail {A} F n most s h = go (F.parse s) refl
-  where
-    go : (m : Parsed A) → F.parse s ≡ m → m ≡ fail
-    go fail e = refl
-    go (got a r) e = absurd (omega (arith, most a, ap length (F.only s a r e).1, length-append (F.print a) r))
-
 abbrev pub count_in : List ℕ → ℕ
 count_in s = get_or s 0 0 + 256 * get_or s 1 0
-
-pub no_count : (s : List ℕ) → length s < 4 → whole finish_told (word32.parse s) ≡ none
-no_count s h = ap (whole finish_told) (few_fail word32 4 (λ n. omega arith) s h)
-
-pub no_words : (s : List ℕ) → length s < 2 → whole adds (word_list.parse s) ≡ none
-no_words s h = ap (λ (m : Parsed ℕ). whole adds (bind m words_in)) (few_fail word16 2 (λ a. omega arith) s h)
 
 module _ (s : List ℕ) (h : 2 ≤ length s) (bytes : (i : ℕ) → Fits w8 (get_or s i 0)) where
   count_found : word16.parse s ≡ got (count_in s) (drop 2 s)
@@ -113,12 +98,6 @@ module _ (s : List ℕ) (h : 2 ≤ length s) (bytes : (i : ℕ) → Fits w8 (get
       module _ (j : ℕ) (u : leb j 4 ≡ true) where
         pub text_within : 2 + j * count_in s ≤ length s
         text_within = omega (arith, found.room, mul-le-mul_right (count_in s) (leb-true j 4 u))
-
-        pub words_fit : length s ≤ 4096 → Fits w64 (j * count_in s)
-        words_fit l = let k = text_within in record { fits = omega arith }
-
-        pub text_fits : length s ≤ 4096 → Fits w64 (2 + j * count_in s)
-        text_fits l = let k = text_within in record { fits = omega arith }
 
       pub frame_told : some (adds (take (count_in s - 0) (drop 0 ys)) (mid_of (2 + 4 * count_in s) (length s - (2 + 4 * count_in s)) s)) ≡ whole adds (word_list.parse s)
       frame_told =

@@ -6,8 +6,7 @@ use Rattle.std.proofs.Math.ListN.{length, take, length-take}
 use Rattle.std.proofs.Common.{lt-ltb, le-ltb}
 use Rattle.format.specs.Answers.{one_stands}
 use Rattle.format.specs.Write.{over}
-use Rattle.format.specs.declared.Written.{Written}
-use Rattle.format.specs.declared.Written.TheVariants.{Length, Short}
+use Rattle.std.specs.Prelude.{Option, None, Some}
 use Rattle.frames.specs.declared.State.{State}
 use Rattle.hex_text.specs.Hex.{hex_of, hex_long}
 use Rattle.hex_text.specs.Line.{line_of}
@@ -24,9 +23,9 @@ pub record Outcome : Type 0 where
   pub value : ℕ
 
 -- what a reply stands for
-abbrev pub lined : Written → State → List ℕ → List ℕ → List ℕ → Outcome
-lined (Length n) state store buffer out = record { room = true; state = state; store = store; buffer = buffer; out = out; value = n }
-lined Short state store buffer out = record { room = false; state = state; store = store; buffer = buffer; out = out; value = 0 }
+abbrev pub lined : Option ℕ → State → List ℕ → List ℕ → List ℕ → Outcome
+lined (Some n) state store buffer out = record { room = true; state = state; store = store; buffer = buffer; out = out; value = n }
+lined None state store buffer out = record { room = false; state = state; store = store; buffer = buffer; out = out; value = 0 }
 
 abbrev pub outcome : Reply → List ℕ → List ℕ → List ℕ → Outcome
 outcome r store buffer out = lined r.line r.state store buffer out
@@ -45,11 +44,11 @@ module _ (state : State) (store buffer out line : List ℕ) where
   is_short = ltb (length out) (2 + 2 * length buffer)
 
   unfoldable pub answering : Outcome
-  answering = cond is_short (lined Short state store buffer out) (answered out (doing state store buffer (line_of line)))
+  answering = cond is_short (lined None state store buffer out) (answered out (doing state store buffer (line_of line)))
 
   -- ---- what meets it
 
-  pub answers_short : length out < 2 + 2 * length buffer → lined Short state store buffer out ≡ answering
+  pub answers_short : length out < 2 + 2 * length buffer → lined None state store buffer out ≡ answering
   unfolding answering
   answers_short h = rw (lt-ltb (length out) (2 + 2 * length buffer) h)
 
@@ -62,7 +61,7 @@ module _ (state : State) (store buffer out line : List ℕ) where
   unfolding answering
   answer_long = go is_short
     where
-      go : (t : Bool) → (cond t (lined Short state store buffer out) (answered out (doing state store buffer (line_of line)))).value ≤ 2 + 2 * length buffer
+      go : (t : Bool) → (cond t (lined None state store buffer out) (answered out (doing state store buffer (line_of line)))).value ≤ 2 + 2 * length buffer
       go true = omega arith
       go false =
           let d = doing state store buffer (line_of line) in
@@ -79,15 +78,15 @@ pub one_answered : {w : Outcome} {r s : Reply} {m n : Memory} → outcome r m.st
 one_answered = one_stands (λ r m. outcome r m.store m.buffer m.out) reply_of memory_of (λ r m. reply_of_lem r.line r.state m) (λ r m. memory_of_lem r.line r.state m)
   where
     reply_of : Outcome → Reply
-    reply_of o = record { state = o.state; line = cond o.room (Length o.value) Short }
+    reply_of o = record { state = o.state; line = cond o.room (Some o.value) None }
 
     memory_of : Outcome → Memory
     memory_of o = record { store = o.store; buffer = o.buffer; out = o.out }
 
-    reply_of_lem : (l : Written) (state : State) (m : Memory) → reply_of (lined l state m.store m.buffer m.out) ≡ record { state = state; line = l }
-    reply_of_lem (Length n) state m = refl
-    reply_of_lem Short state m = refl
+    reply_of_lem : (l : Option ℕ) (state : State) (m : Memory) → reply_of (lined l state m.store m.buffer m.out) ≡ record { state = state; line = l }
+    reply_of_lem (Some n) state m = refl
+    reply_of_lem None state m = refl
 
-    memory_of_lem : (l : Written) (state : State) (m : Memory) → memory_of (lined l state m.store m.buffer m.out) ≡ m
-    memory_of_lem (Length n) state m = refl
-    memory_of_lem Short state m = refl
+    memory_of_lem : (l : Option ℕ) (state : State) (m : Memory) → memory_of (lined l state m.store m.buffer m.out) ≡ m
+    memory_of_lem (Some n) state m = refl
+    memory_of_lem None state m = refl

@@ -17,6 +17,9 @@ use Rattle.module.specs.Module.{module_of}
 use Rattle.module.specs.Finish as finish
 use Rattle.module.specs.Finish.{finishing}
 use Rattle.hex_text.specs.Frame.{Frame, adds, finishes}
+use Rattle.std.specs.Prelude.{Result, Ok, Err}
+use Rattle.format.specs.Refusal.{told}
+use Rattle.format.specs.declared.refusal.Refusal.{Refusal}
 use Rattle.lines.specs.declared.tell.Told.{Told}
 
 -- a number of the table, the module's length or 0; and the state, the store and the module's buffer, afterwards
@@ -27,9 +30,14 @@ pub record Done : Type 0 where
   pub store : List ℕ
   pub buffer : List ℕ
 
+-- 0 beside a refusal
+abbrev pub value_of : Result ℕ Refusal → ℕ
+value_of (Ok n) = n
+value_of (Err e) = 0
+
 -- what an answer stands for
 abbrev pub done : Told → List ℕ → List ℕ → Done
-done r store buffer = record { number = r.number; value = r.value; state = r.state; store = store; buffer = buffer }
+done r store buffer = record { number = told r.answer; value = value_of r.answer; state = r.state; store = store; buffer = buffer }
 
 -- an add has no module
 abbrev pub added : List ℕ → append.Outcome → Done

@@ -6,15 +6,15 @@ mod tell;
 ghost use Rattle.std.specs.Prelude.{◌≡◌};
 ghost use Rattle.lines.specs.Answer.{outcome, answering};
 
-use hex_text::{frame_bytes, put_answer};
-use tell::tell;
-use thriftbell::{State, Written};
+use hex_text::put_answer;
+use tell::tell_line;
+use thriftbell::State;
 
-// The state behind a line, and how many characters the answer line has; or that there is no room for the longest answer, and then nothing was done.
-#[derive(Clone, Copy)]
+// The state behind a line, and how many characters the answer line has; none where there is no room for the longest answer, and then nothing was done.
+#[derive(Clone, Copy, Debug, PartialEq, Eq)]
 pub struct Reply {
     pub state: State,
-    pub line: Written,
+    pub line: Option<usize>,
 }
 
 pub fn answer(
@@ -27,19 +27,13 @@ pub fn answer(
     ensures { outcome result store.new buffer.new out.new ≡ answering state store.old buffer.old out.old line.now }
 {
     if out.len() / 2 <= buffer.len() {
-        return Reply {
-            state: state,
-            line: Written::Short,
-        };
+        return Reply { state, line: None };
     }
-    let mut bytes = [0u8; 4096];
-    let n = frame_bytes(line, &mut bytes);
-    let t = tell(&bytes[0..n], state, store, buffer);
-    let n = t.value;
-    let state = t.state;
-    let m = put_answer(t.number, &buffer[0..n], out);
+    let t = tell_line(line, state, store, buffer);
+    let (number, n) = t.numbers();
+    let m = put_answer(number, &buffer[..n], out);
     Reply {
-        state: state,
-        line: Written::Length(m),
+        state: t.state,
+        line: Some(m),
     }
 }

@@ -1,38 +1,59 @@
-// What a frame does to the store, its state and the module's buffer.
-ghost use Rattle.std.specs.Prelude.{◌≡◌, ◌≤◌, length};
+// What a line's frame does to the store, its state and the module's buffer.
+ghost use Rattle.std.specs.Prelude.{◌≡◌, ◌≤◌, length, Err};
+ghost use Rattle.format.specs.declared.refusal.Refusal.TheVariants.{BadLine};
 ghost use Rattle.std.proofs.Math.Option.{some};
 ghost use Rattle.frames.specs.Frames.{word32};
 ghost use Rattle.hex_text.specs.Frame.{adds, finish_told, word_list, whole, frame_of};
-ghost use Rattle.lines.specs.Done.{Does, Tells};
+ghost use Rattle.hex_text.specs.Line.{line_of};
+ghost use Rattle.format.specs.Refusal.{told};
+ghost use Rattle.lines.specs.Done.{value_of, Does, Tells};
 
-use hex_text::{read_words, word_at};
-use thriftbell::{Finished, Given, State, add, finish};
+use hex_text::{frame_bytes, read_words, word_at};
+use thriftbell::{Given, Refusal, State, add, finish};
 
-// The number of the table, how many bytes the module has or 0, and the state.
-#[derive(Clone, Copy)]
+// How many bytes the module has, or 0 behind an add; or why the line is refused. And the state.
+#[derive(Clone, Copy, Debug, PartialEq, Eq)]
 pub struct Told {
-    pub number: u8,
-    pub value: usize,
+    pub answer: Result<usize, Refusal>,
     pub state: State,
 }
 
-// An answer without a module.
-fn plain(number: u8, state: State) -> Told
-    ensures { result ≡ record { number = number; value = 0; state = state } }
+impl Told {
+    // The number of the table, and the module's length or 0.
+    pub fn numbers(self) -> (u8, usize)
+        ensures number { result.0 ≡ told self.answer }
+        ensures value { result.1 ≡ value_of self.answer }
+    {
+        match self.answer {
+            Ok(n) => (0, n),
+            Err(r) => (r.number(), 0),
+        }
+    }
+}
+
+// What no frame is told.
+fn no_frame(state: State) -> Told
+    ensures { result ≡ record { answer = Err BadLine; state = state } }
 {
     Told {
-        number: number,
-        value: 0,
-        state: state,
+        answer: Err(Refusal::BadLine),
+        state,
     }
 }
 
 fn add_words(words: &[u32], text: &[u8], state: State, store: &mut [u8]) -> Told
     ensures { Tells (some (adds words.now text.now)) state store.old store.new result }
 {
-    let a = add(state, store, words, text);
-    let s = a.state;
-    plain(a.number as u8, s)
+    match add(state, store, words, text) {
+        Ok(state) => Told {
+            answer: Ok(0),
+            state,
+        },
+        Err(r) => Told {
+            answer: Err(r),
+            state,
+        },
+    }
 }
 
 // Few bytes hold few words, so that there is room for them.
@@ -41,12 +62,12 @@ fn add_frame(bytes: &[u8], state: State, store: &mut [u8]) -> Told
     ensures { Tells (whole adds (word_list.parse bytes.now)) state store.old store.new result }
 {
     if bytes.len() < 2 {
-        return plain(12, state);
+        return no_frame(state);
     }
     let n = bytes[0] as usize + 256 * (bytes[1] as usize);
     let mut list = [0u32; 1024];
     if !read_words(&bytes[2..], n, &mut list) {
-        return plain(12, state);
+        return no_frame(state);
     }
     let from = 2 + 4 * n;
     add_words(&list[0..n], &bytes[from..], state, store)
@@ -56,33 +77,32 @@ fn finish_frame(bytes: &[u8], state: State, store: &[u8], buffer: &mut [u8]) -> 
     ensures { Does (whole finish_told (word32.parse bytes.now)) state store.now buffer.old store.now buffer.new result }
 {
     if bytes.len() < 4 {
-        return plain(12, state);
+        return no_frame(state);
     }
     let count = word_at(bytes, 0);
-    let given = Given { count: count };
-    match finish(state, store, &bytes[4..], given, buffer) {
-        Finished::Length(n) => return Told {
-            number: 0,
-            value: n,
-            state: state,
-        },
-        Finished::Refused(k) => return plain(k as u8, state),
-    }
+    let answer = finish(state, store, &bytes[4..], Given { count }, buffer);
+    Told { answer, state }
 }
 
-pub fn tell(frame: &[u8], state: State, store: &mut [u8], buffer: &mut [u8]) -> Told
+fn tell(frame: &[u8], state: State, store: &mut [u8], buffer: &mut [u8]) -> Told
     requires { length frame.now ≤ 4096 }
     ensures { Does (frame_of frame.now) state store.old buffer.old store.new buffer.new result }
 {
-    if frame.len() == 0 {
-        return plain(12, state);
+    match frame {
+        [1, rest @ ..] => add_frame(rest, state, store),
+        [2, rest @ ..] => finish_frame(rest, state, store, buffer),
+        [_, ..] => no_frame(state),
+        [] => no_frame(state),
     }
-    let kind = frame[0];
-    if kind == 1 {
-        return add_frame(&frame[1..], state, store);
+}
+
+// A line has at most 4,096 bytes; one that holds no frame is answered as an empty frame is.
+pub fn tell_line(line: &[u8], state: State, store: &mut [u8], buffer: &mut [u8]) -> Told
+    ensures { Does (line_of line.now) state store.old buffer.old store.new buffer.new result }
+{
+    let mut bytes = [0u8; 4096];
+    match frame_bytes(line, &mut bytes) {
+        Some(n) => tell(&bytes[..n], state, store, buffer),
+        None => no_frame(state),
     }
-    if kind == 2 {
-        return finish_frame(&frame[1..], state, store, buffer);
-    }
-    plain(12, state)
 }

@@ -8,7 +8,7 @@ pub use reader::read_list;
 pub use writer::walk_list;
 
 // What the members of a list are.
-#[derive(Clone, Copy)]
+#[derive(Clone, Copy, Debug, PartialEq, Eq, Hash)]
 pub enum Member {
     Index,
     Val,

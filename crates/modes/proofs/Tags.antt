@@ -10,7 +10,7 @@ use Rattle.format.specs.Basic.{tag}
 use Rattle.format.specs.Read.{drop_more}
 use Rattle.format.specs.Walk.{Walked, Walks}
 use Rattle.format.specs.declared.Done.{Done}
-use Rattle.format.specs.declared.Walk.{Walk}
+use Rattle.format.specs.Walk.{Walk}
 
 pub stands : (k : ℕ) (w : List ℕ) (at : ℕ) → at < length w → get_or w at 0 ≡ k → drop at w ≡ k ∷ drop (at + 1) w
 stands k w at h e = rw (drop_more w at h, e)

@@ -14,8 +14,7 @@ use Rattle.parts.specs.Text.{expression}
 use Rattle.parts.specs.Both.{both}
 use Rattle.modes.specs.declared.Mode.{Mode}
 use Rattle.modes.specs.declared.Mode.TheVariants.{Active, Passive, ActiveTable, Declared}
-use Rattle.modes.specs.declared.ModeRead.{ModeRead}
-use Rattle.modes.specs.declared.ModeRead.TheVariants as modes
+use Rattle.std.specs.Prelude.{Option, None, Some}
 
 -- ---- two words: 2 active, and the table flag; 0 passive or 1 declared, and 0
 
@@ -54,9 +53,9 @@ pub mode_ok : (m : Mode) → mode_words.Ok m
 mode_ok = elim [ Active ↦ tt | Passive ↦ (tt, tt) | ActiveTable ↦ tt | Declared ↦ (tt, tt) ]
 
 -- what was read of words, as an answer
-abbrev pub mode_read : Parsed Mode → ModeRead
-mode_read fail = modes.No
-mode_read (got m r) = modes.Is m
+abbrev pub mode_read : Parsed Mode → Option Mode
+mode_read fail = None
+mode_read (got m r) = Some m
 
 -- ---- the place: three words, the table and the offset, which are 0 where there is none; in bytes what there is
 

@@ -8,17 +8,10 @@ pub use reader::{append_mode, append_two, read_place};
 pub use writer::{find_mode, walk_place};
 
 // Where the elements of a segment go. Active is without a table.
-#[derive(Clone, Copy)]
+#[derive(Clone, Copy, Debug, PartialEq, Eq, Hash)]
 pub enum Mode {
     Active,
     Passive,
     ActiveTable,
     Declared,
-}
-
-// What a mode word and a table flag are.
-#[derive(Clone, Copy)]
-pub enum ModeRead {
-    No,
-    Is(Mode),
 }

@@ -7,7 +7,7 @@ ghost use Rattle.modes.specs.Mode.{mode_words, nowhere, place};
 ghost use Rattle.modes.specs.declared.Mode.TheVariants.{ActiveTable};
 
 use crate::Mode;
-use format::{Done, Walk, append_word};
+use format::{Done, Walk, append};
 use parts::read_expr;
 use words::read_index;
 
@@ -15,8 +15,8 @@ use words::read_index;
 pub fn append_two(a: u32, b: u32, out: &mut [u32], s: Done) -> Done
     ensures { Appends (a ∷ b ∷ []) out.old s out.new result }
 {
-    let t = append_word(a, out, s);
-    append_word(b, out, t)
+    let t = append(a, out, s);
+    append(b, out, t)
 }
 
 // The mode word and the table flag.
@@ -35,8 +35,8 @@ pub fn append_mode(m: Mode, out: &mut [u32], s: Done) -> Done
 fn read_nowhere(at: usize, out: &mut [u32], s: Done) -> Walk
     ensures { (b : List ℕ) → Reading nowhere b at out.old s out.new result }
 {
-    let t = append_word(0, out, s);
-    Walk::Got(at, append_two(0, 0, out, t))
+    let t = append(0, out, s);
+    Some((at, append_two(0, 0, out, t)))
 }
 
 // The table, and the offset.
@@ -44,9 +44,7 @@ fn read_table_offset(b: &[u8], at: usize, out: &mut [u32], s: Done) -> Walk
     requires { length b.now ≤ text_most }
     ensures { Reading (place ActiveTable) b.now at out.old s out.new result }
 {
-    let Walk::Got(p, t) = read_index(b, at, out, s) else {
-        return Walk::No;
-    };
+    let (p, t) = read_index(b, at, out, s)?;
     read_expr(b, p, out, t)
 }
 
@@ -56,11 +54,10 @@ pub fn read_place(m: Mode, b: &[u8], at: usize, out: &mut [u32], s: Done) -> Wal
 {
     match m {
         Mode::Active => {
-            let t = append_word(0, out, s);
+            let t = append(0, out, s);
             read_expr(b, at, out, t)
         }
-        Mode::Passive => read_nowhere(at, out, s),
         Mode::ActiveTable => read_table_offset(b, at, out, s),
-        Mode::Declared => read_nowhere(at, out, s),
+        Mode::Passive | Mode::Declared => read_nowhere(at, out, s),
     }
 }

@@ -4,36 +4,21 @@ ghost use Rattle.parts.specs.Writing.{Writing};
 ghost use Rattle.modes.specs.Mode.{mode_words, mode_read, nowhere, place};
 ghost use Rattle.modes.specs.declared.Mode.TheVariants.{Active, ActiveTable};
 
-use crate::{Mode, ModeRead};
+use crate::Mode;
 use format::{Done, Walk};
 use parts::walk_expr;
-use words::{walk_index, walk_unused};
+use words::walk_index;
 
 // The mode word and the table flag, which is set only if active.
-pub fn find_mode(words: &[u32], at: usize) -> ModeRead
+pub fn find_mode(words: &[u32], at: usize) -> Option<Mode>
     ensures { result ≡ mode_read (mode_words.parse (drop at words.now)) }
 {
-    if words.len() <= at {
-        return ModeRead::No;
-    }
-    if words.len() - at < 2 {
-        return ModeRead::No;
-    }
-    let table = words[at + 1];
-    if words[at] == 2 {
-        return match table {
-            0 => ModeRead::Is(Mode::Active),
-            1 => ModeRead::Is(Mode::ActiveTable),
-            _ => ModeRead::No,
-        };
-    }
-    if table != 0 {
-        return ModeRead::No;
-    }
-    match words[at] {
-        0 => ModeRead::Is(Mode::Passive),
-        1 => ModeRead::Is(Mode::Declared),
-        _ => ModeRead::No,
+    match words.get(at..)? {
+        [2, 0, ..] => Some(Mode::Active),
+        [2, 1, ..] => Some(Mode::ActiveTable),
+        [0, 0, ..] => Some(Mode::Passive),
+        [1, 0, ..] => Some(Mode::Declared),
+        _ => None,
     }
 }
 
@@ -41,24 +26,18 @@ pub fn find_mode(words: &[u32], at: usize) -> ModeRead
 fn walk_nowhere(words: &[u32], at: usize, s: Done) -> Walk
     ensures { (t out : List ℕ) → Writing nowhere t words.now at out s out result }
 {
-    if words.len() <= at {
-        return Walk::No;
+    match words.get(at..)? {
+        [0, 0, 0, ..] => Some((at + 3, s)),
+        _ => None,
     }
-    if words[at] != 0 {
-        return Walk::No;
-    }
-    walk_unused(words, at + 1, s)
 }
 
 // An unused word, and the offset.
 fn walk_offset(words: &[u32], at: usize, text: &[u8], out: &mut [u8], s: Done) -> Walk
     ensures { Writing (place Active) text.now words.now at out.old s out.new result }
 {
-    if words.len() <= at {
-        return Walk::No;
-    }
-    if words[at] != 0 {
-        return Walk::No;
+    if *words.get(at)? != 0 {
+        return None;
     }
     walk_expr(words, at + 1, text, out, s)
 }
@@ -67,9 +46,7 @@ fn walk_offset(words: &[u32], at: usize, text: &[u8], out: &mut [u8], s: Done) -
 fn walk_table_offset(words: &[u32], at: usize, text: &[u8], out: &mut [u8], s: Done) -> Walk
     ensures { Writing (place ActiveTable) text.now words.now at out.old s out.new result }
 {
-    let Walk::Got(p, t) = walk_index(words, at, out, s) else {
-        return Walk::No;
-    };
+    let (p, t) = walk_index(words, at, out, s)?;
     walk_expr(words, p, text, out, t)
 }
 
@@ -78,8 +55,7 @@ pub fn walk_place(m: Mode, words: &[u32], at: usize, text: &[u8], out: &mut [u8]
 {
     match m {
         Mode::Active => walk_offset(words, at, text, out, s),
-        Mode::Passive => walk_nowhere(words, at, s),
         Mode::ActiveTable => walk_table_offset(words, at, text, out, s),
-        Mode::Declared => walk_nowhere(words, at, s),
+        Mode::Passive | Mode::Declared => walk_nowhere(words, at, s),
     }
 }

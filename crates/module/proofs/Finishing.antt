@@ -7,34 +7,34 @@ use Prim.Native.Nat.{ℕ, ◌+◌, ◌-◌, ◌≤◌, ◌<◌, ◌^◌}
 use native.Mathlib.Omega.{arith}
 use mir.Syntax.{w64}
 use mir.Val.{Fits}
-use lib.ListN.{length, take, length-append, length-take}
+use lib.ListN.{length, take, length-append}
 use borrow.Author.Tests.{lt-ltb, le-ltb}
 use borrow.Rule.Slice.PartMut.{put_mid, mid_of}
 use Rattle.format.specs.Answers.{answer, settled, settled_accepts, settled_refuses}
 use Rattle.format.specs.Lists.{prints}
 use Rattle.format.specs.Runs.{run}
-use Rattle.format.specs.Write.{Outcome, Writes, writes_as, writes_then, room_then, fitted, told_length, within, same_long}
-use Rattle.format.specs.declared.Written.{Written}
-use Rattle.format.specs.declared.Written.TheVariants.{Length}
+use Rattle.format.specs.Write.{Written, Outcome, Writes, writes_as, writes_then, room_then, told_length}
+use Rattle.std.specs.Prelude as R
+use Rattle.std.specs.Prelude.{Result, Ok, Err, IsOk, None, Some}
+use Rattle.std.specs.Option.{ok_or}
+use Rattle.format.specs.declared.refusal.Refusal.{Refusal}
+use Rattle.format.specs.declared.refusal.Refusal.TheVariants.{NoFrames}
+use Rattle.sections.proofs.Behind.{room_ok, written, behind_starts, behind_fits}
 use Rattle.frames.specs.Frames.{Frame, frame, no_frames, held, frames_of}
-use Rattle.frames.specs.Builder.{store_most, frames_in, is_over}
-use Rattle.frames.specs.Builder as Builder
-use Rattle.frames.specs.Tally.{tally_of}
+use Rattle.frames.specs.Builder.{frames_in, is_over}
+use Rattle.frames.specs.Tally.{Tallies, tally_of, framed}
 use Rattle.frames.specs.declared.State.{State}
-use Rattle.frames.specs.declared.Tallies.{Tallies}
 use Rattle.sections.specs.declared.Given.{Given}
 use Rattle.sections.specs.Section.{Ending, ending, section_of}
 use Rattle.sections.specs.Order.{order_most, order_ids, all_among}
 use Rattle.module.specs.Module.{header, module_of}
-use Rattle.module.specs.Finish.{refused, outcome, is_short, finished, building, conditions, finishing}
-use Rattle.module.specs.declared.Finished.{Finished}
-use Rattle.module.specs.declared.Finished.TheVariants as F
+use Rattle.module.specs.Finish.{Finished, refused, outcome, is_short, finished, building, conditions, finishing}
 
--- a tally tells whether there are frames
-tally_told : (o : Option (List Frame)) {t : Tallies} → t ≡ tally_of o → {b : Bool} → not t.are ≡ b → no_frames o ≡ b
+-- where a tally finds nothing, there are no frames
+untallied : (o : Option (List Frame)) → None ≡ tally_of o → no_frames o ≡ true
 unfolding tally_of
-tally_told none e q = sym (ap (λ (t : Tallies). not t.are) e) ∙ q
-tally_told (some fs) e q = sym (ap (λ (t : Tallies). not t.are) e) ∙ q
+untallied none e = refl
+untallied (some fs) e = let z : ◌≡◌ {A = ℕ} 0 1 = cc in absurd (omega arith)
 
 -- a test of the order list, turned over
 order_told : (order : List ℕ) {b : Bool} → b ≡ all_among order_ids order → {t : Bool} → not b ≡ t → all_among order_ids order ≡ not t
@@ -63,60 +63,60 @@ module _ (e : Ending) (o : Option (List Frame)) (out : List ℕ) where
     short : length out < length (module_of e (held o)) → refused out 10 ≡ building e o out
     short h = refuses_built 10 (λ z. omega arith) (rw (f, lt-ltb (length out) (length (module_of e (held o))) h))
 
-    written : {ys : List ℕ} {n : ℕ} → Writes (module_of e (held o)) out ys (Length n) → outcome (F.Length n) ys ≡ building e o out
-    written {ys} {n} w =
+    built_whole : {ys : List ℕ} {n : ℕ} → Writes (module_of e (held o)) out ys (Ok n) → outcome (Ok n) ys ≡ building e o out
+    built_whole {ys} {n} w =
         let (k, h, m) = told_length w refl in
         let a : answer left ≡ 0 = rw (f, le-ltb (length out) (length (module_of e (held o))) h) in
-        let d : outcome (F.Length n) ys ≡ finished e o out = rw (k, m) in
+        let d : outcome (Ok n) ys ≡ finished e o out = rw (k, m) in
         d ∙ sym (settled_accepts (refused out) (finished e o out) (answer left) a)
 
--- ---- as the code tells it: t is the tally of the bytes s
+-- ---- as the code tells it: a walk of the bytes s finds nothing, or t
 
-module _ (s : List ℕ) (t : Tallies) (e : t ≡ tally_of (run frame s)) where
-  pub frames_there : not t.are ≡ false → no_frames (run frame s) ≡ false
-  frames_there = tally_told (run frame s) e
+pub unframed_refused : (s order : List ℕ) (given : Given) (out : List ℕ) {r : R.Option Tallies} → r ≡ tally_of (run frame s) → r ≡ None → {f : Finished} {x c : Refusal} → f ≡ Err x → x ≡ c
+    → ◌≡◌ {A = Result Tallies Refusal} (Err c) (ok_or r NoFrames) → outcome f out ≡ building (ending order given) (run frame s) out
+unframed_refused s order given out d n {f} {x} {c} p q v =
+    let z : ◌≡◌ {A = Result Tallies Refusal} (Err c) (Err NoFrames) = v ∙ ap (λ (o : R.Option Tallies). ok_or o NoFrames) n in
+    let w : f ≡ Err NoFrames = cc in
+    rw w (no_frames_lem (ending order given) (run frame s) out (untallied (run frame s) (sym n ∙ d)))
 
+pub tally_some : {r o : R.Option Tallies} {t : Tallies} → r ≡ Some t → r ≡ o → Some t ≡ o
+tally_some e d = sym e ∙ d
+
+module _ (s : List ℕ) (t : Tallies) (e : Some t ≡ tally_of (run frame s)) where
   module _ (order : List ℕ) (given : Given) where
     abbrev parts : List ℕ
     parts = prints (section_of given (frames_of s)) order
 
-    pub unframed_refused : (out : List ℕ) → not t.are ≡ true → refused out 9 ≡ building (ending order given) (run frame s) out
-    unframed_refused out q = no_frames_lem (ending order given) (run frame s) out (tally_told (run frame s) e q)
-
     -- n is the sections' length
-    module _ (n : ℕ) (l : (s : List ℕ) → t ≡ tally_of (run frame s) → n ≡ length (prints (section_of given (frames_of s)) order)) (out : List ℕ) where
-      pub short_refused : not t.are ≡ false → length out < 8 + n → refused out 10 ≡ building (ending order given) (run frame s) out
-      short_refused q h = short (ending order given) (run frame s) out (frames_there q) (omega (arith, l s e, module_long (ending order given) (run frame s) out))
+    module _ (n : ℕ) (l : (s : List ℕ) → Some t ≡ tally_of (run frame s) → n ≡ length (prints (section_of given (frames_of s)) order)) (out : List ℕ) where
+      pub short_refused : length out < 8 + n → refused out 10 ≡ building (ending order given) (run frame s) out
+      short_refused h = short (ending order given) (run frame s) out (framed s e) (omega (arith, l s e, module_long (ending order given) (run frame s) out))
 
-      pub sections_room : 8 + n ≤ length out → {ys : List ℕ} {w : Written} → Writes header out ys w → length parts ≤ length (mid_of 8 (length ys - 8) ys)
-      sections_room h v = (room_then parts (fitted v (omega arith)) (omega (arith, l s e, length-append header parts))).room
+    module _ (out : List ℕ) (k : ℕ) (h : 8 + k ≤ length out) {ys : List ℕ} {w : Written} (v : Writes header out ys w) {n : ℕ} (q : w ≡ Ok n) where
+      pub sections_room : ((s : List ℕ) → Some t ≡ tally_of (run frame s) → k ≡ length (prints (section_of given (frames_of s)) order)) → length parts ≤ length (mid_of n (length ys - n) ys)
+      sections_room l = (room_then parts (written v q) (omega (arith, l s e, length-append header parts))).room
 
-    module _ (out : List ℕ) (n : ℕ) (h : 8 + n ≤ length out) {ys : List ℕ} {w : Written} (v : Writes header out ys w) {zs : List ℕ} {m : ℕ} (u : Writes parts (mid_of 8 (length ys - 8) ys) zs (Length m)) where
-      whole : Writes (header ++ parts) out (put_mid 8 (length ys - 8) ys zs) (Length (8 + m))
-      whole = writes_then (fitted v (omega arith)) u
+      module _ {zs : List ℕ} {m : ℕ} (u : Writes parts (mid_of n (length ys - n) ys) zs (Ok m)) where
+        whole : Writes (header ++ parts) out (put_mid n (length ys - n) ys zs) (Ok (n + m))
+        whole = writes_then (written v q) u
 
-      pub module_fits : length out < 2 ^ 64 → Fits w64 (8 + m)
-      module_fits b = record { fits = omega (arith, within whole) }
-
-      pub module_kept : length (put_mid 8 (length ys - 8) ys zs) ≡ length out
-      module_kept = same_long whole
-
-      pub module_written : not t.are ≡ false → outcome (F.Length (8 + m)) (put_mid 8 (length ys - 8) ys zs) ≡ building (ending order given) (run frame s) out
-      module_written q = written (ending order given) (run frame s) out (frames_there q) (writes_as (sym (module_parts (ending order given) (run frame s) out)) whole)
+        pub module_written : outcome (Ok (n + m)) (put_mid n (length ys - n) ys zs) ≡ building (ending order given) (run frame s) out
+        module_written = built_whole (ending order given) (run frame s) out (framed s e) (writes_as (sym (module_parts (ending order given) (run frame s) out)) whole)
 
 -- the header is written
-pub header_behind : {out ys : List ℕ} {w : Written} → Writes header out ys w → (n : ℕ) → 8 + n ≤ length out → 8 ≤ length ys
-header_behind v n h = omega (arith, same_long (fitted v (omega arith)))
+module _ {out ys : List ℕ} {w : Written} (v : Writes header out ys w) where
+  pub header_fits : (k : ℕ) → 8 + k ≤ length out → IsOk w
+  header_fits k h = room_ok v (omega arith)
+
+  pub header_behind : {n : ℕ} → w ≡ Ok n → n ≤ length ys
+  header_behind q = behind_starts (written v q)
+
+  pub module_fits : {n : ℕ} → w ≡ Ok n → {b zs : List ℕ} {m : ℕ} → Writes b (mid_of n (length ys - n) ys) zs (Ok m) → length out < 2 ^ 64 → Fits w64 (n + m)
+  module_fits q u h = behind_fits (written v q) u refl h
 
 -- ---- 1 and 8: r is the test of the store, and b that of the order list
 
 module _ (state : State) (store : List ℕ) {r : Bool} (d : r ≡ is_over state store) where
-  pub used_within : r ≡ false → state.used ≤ length store
-  used_within q = (Builder.within state store (sym d ∙ q)).room
-
-  pub used_few : r ≡ false → length (take (state.used - 0) store) ≤ store_most
-  used_few q = let inside = Builder.within state store (sym d ∙ q) in omega (arith, inside.most, length-take (state.used - 0) store)
-
   module _ (order : List ℕ) (given : Given) (out : List ℕ) where
     abbrev e : Ending
     e = ending order given
@@ -143,11 +143,6 @@ module _ (state : State) (store : List ℕ) {r : Bool} (d : r ≡ is_over state 
         unfolding finishing
         same p = rw (sym d ∙ q, le-ltb order_most (length order) l, order_told order m p)
 
-        pub built : not b ≡ false → (f : Finished) (ys : List ℕ) → outcome f ys ≡ building (ending order given) (run frame (take (state.used - 0) store)) out
+        pub built : not b ≡ false → (f : Finished) (ys : List ℕ) → outcome f ys ≡ building (ending order given) (run frame (take state.used store)) out
             → outcome f ys ≡ finishing state store (ending order given) out
-        built p f ys g =
-            let z : state.used - 0 ≡ state.used = omega arith in
-            g ∙ ap (λ (n : ℕ). building e (run frame (take n store)) out) z ∙ same p
-
-pub order_listed : (order : List ℕ) {b : Bool} → b ≡ all_among order_ids order → not b ≡ false → all_among order_ids order ≡ true
-order_listed order m p = order_told order m p
+        built p f ys g = g ∙ same p

@@ -1,30 +1,36 @@
--- How far the look at an order list has come. Assumes nothing.
+-- What a look at each id of an order list tells. Assumes nothing.
 use mathlib.Core.Path.{◌≡◌, refl, sym, ◌∙◌}
-use mathlib.Core.Bool.{Bool, true, false}
-use mathlib.Core.List.{List}
-use Prim.Native.Nat.{ℕ, ◌+◌, ◌<◌, ◌≤◌}
-use lib.ListN.{length, drop, get_or}
-use borrow.Author.Tests.{ne_eqb}
-use Rattle.format.specs.Read.{drop_more, drop_end}
-use Rattle.frames.specs.Ids.{among, sections}
-use Rattle.sections.specs.Order.{order_ids, all_among}
+use mathlib.Core.Logic.{◌↔◌}
+use mathlib.Core.Bool.{Bool, true, false, cond, true≢false}
+use mathlib.Core.List.{List, [], ◌∷◌}
+use Prim.Native.Nat.{ℕ, zero, suc, ◌<◌}
+use native.Mathlib.Omega.{arith}
+use lib.ListN.{length, get_or}
+use Rattle.frames.specs.Ids.{among}
+use Rattle.sections.specs.Order.{all_among}
 
-pub order_section : (i : ℕ) → (i ≡ 12 → ⊥) → among sections i ≡ among order_ids i
-order_section i h = rw (ne_eqb i 12 h)
+module _ (ids : List ℕ) where
+  abbrev Each : List ℕ → Type 0
+  Each order = (k : ℕ) → k < length order → among ids (get_or order k 0) ≡ true
 
--- the ids before place i are among those
-pub record Looked (order : List ℕ) (i : ℕ) : Type 0 where
-  pub rest : all_among order_ids order ≡ all_among order_ids (drop i order)
+  each_among : (order : List ℕ) → Each order → all_among ids order ≡ true
+  each_among [] h = refl
+  each_among (i ∷ order) h = rw (h 0 (omega arith)) (each_among order (λ k l. h (suc k) (omega arith)))
 
-pub looked_none : {order : List ℕ} → Looked order 0
-looked_none = record { rest = refl }
+  among_each : (order : List ℕ) → all_among ids order ≡ true → Each order
+  among_each [] e k l = absurd (omega arith)
+  among_each (i ∷ order) e k l = go (among ids i) refl e (among_each order) k l
+    where
+      go : (t : Bool) → among ids i ≡ t → cond t (all_among ids order) false ≡ true → (all_among ids order ≡ true → Each order)
+          → (k : ℕ) → k < suc (length order) → among ids (get_or (i ∷ order) k 0) ≡ true
+      go true q e f zero l = q
+      go true q e f (suc k) l = f e k (omega arith)
+      go false q e f k l = absurd (true≢false (sym e))
 
-module _ {order : List ℕ} {i : ℕ} (l : Looked order i) where
-  pub looked_more : i < length order → {t : Bool} → t ≡ among order_ids (get_or order i 0) → t ≡ true → Looked order (i + 1)
-  looked_more h p q = record { rest = l.rest ∙ rw (drop_more order i h, sym p ∙ q) }
-
-  pub looked_stop : i < length order → {t : Bool} → t ≡ among order_ids (get_or order i 0) → t ≡ false → false ≡ all_among order_ids order
-  looked_stop h p q = sym (l.rest ∙ rw (drop_more order i h, sym p ∙ q))
-
-  pub looked_all : length order ≤ i → true ≡ all_among order_ids order
-  looked_all h = sym (l.rest ∙ rw (drop_end order i h))
+  pub all_told : (order : List ℕ) {b : Bool} → (b ≡ true) ↔ Each order → b ≡ all_among ids order
+  all_told order {b} f = go b refl (all_among ids order) refl
+    where
+      go : (b' : Bool) → b ≡ b' → (a : Bool) → all_among ids order ≡ a → b ≡ all_among ids order
+      go true p a q = p ∙ sym (each_among order (f.0 p))
+      go false p true q = absurd (true≢false (sym (f.1 (among_each order q)) ∙ p))
+      go false p false q = p ∙ sym q

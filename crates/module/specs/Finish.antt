@@ -1,28 +1,26 @@
 -- What finishing answers and leaves, for every input (document 01, Store and module; Answers by number: 1, 8, 9, 10). Assumes nothing.
 use Rattle.std.specs.Prelude.{◌≡◌, ◌↔◌, Bool, true, false, not, ◌||◌, List, [], ◌∷◌, ◌++◌, ℕ, ltb, length, take, drop}
 use Rattle.std.proofs.Math.Path.{refl, sym}
-use Rattle.std.proofs.Common.{ap, ◌∙◌, arith}
+use Rattle.std.proofs.Common.{◌∙◌, arith}
 use Rattle.std.proofs.Math.Option.{Option}
 use Rattle.format.specs.Answers.{answer, NoneHolds, given_exactly, accepted_exactly, settled, settled_accepts, settled_exactly}
 use Rattle.format.specs.Lists.{All, prints}
-use Rattle.format.specs.Write.{Outcome, over}
+use Rattle.format.specs.Write.{Written, Outcome, over, same_outcome}
+pub use Rattle.format.specs.Write.{outcome}
 use Rattle.frames.specs.Frames.{Frame, frame, no_frames, held}
 use Rattle.frames.specs.Builder.{used_in, frames_in, is_over, is_unframed, unframed_exactly}
 use Rattle.frames.specs.declared.State.{State}
 use Rattle.sections.specs.Section.{Ending}
 use Rattle.sections.specs.Order.{order_most, order_ids, all_among}
-use Rattle.module.specs.Module.{module_of, module_least}
-use Rattle.module.specs.declared.Finished.{Finished}
-use Rattle.module.specs.declared.Finished.TheVariants.{Length, Refused}
+use Rattle.module.specs.Module.{module_of}
+
+-- what finishing answers, and what it stands for
+abbrev pub Finished : Type 0
+Finished = Written
 
 -- a refusal returns 0 and changes nothing
 abbrev pub refused : List ℕ → ℕ → Outcome
 refused out n = record { number = n; value = 0; memory = out }
-
--- what an answer stands for
-abbrev pub outcome : Finished → List ℕ → Outcome
-outcome (Length n) ys = record { number = 0; value = n; memory = ys }
-outcome (Refused k) ys = refused ys k
 
 -- order list too long or with another id
 abbrev pub is_other : List ℕ → Bool
@@ -97,15 +95,5 @@ module _ (state : State) (store : List ℕ) (e : Ending) (out : List ℕ) where
 
   -- ---- any two answers and outputs that the contract allows are equal
 
-  -- accepted, its length is not that beside a refusal
-  some_length : finishing.number ≡ 0 → finishing.value ≡ 0 → ⊥
-  some_length z v = omega (arith, ap (λ (o : Outcome). o.value) (accepts (zero_exactly.0 z)), module_least e (held (frames_in state store)))
-
   pub one_finished : {r s : Finished} {ys zs : List ℕ} → outcome r ys ≡ finishing → outcome s zs ≡ finishing → (r ≡ s) × (ys ≡ zs)
-  one_finished {r} {s} {ys} {zs} p q = go r s p q
-    where
-      go : (r s : Finished) → outcome r ys ≡ finishing → outcome s zs ≡ finishing → (r ≡ s) × (ys ≡ zs)
-      go (Length m) (Length n) p q = let d = p ∙ sym q in (ap Length (ap (λ (o : Outcome). o.value) d), ap (λ (o : Outcome). o.memory) d)
-      go (Length m) (Refused k) p q = absurd (some_length (sym (ap (λ (o : Outcome). o.number) p)) (sym (ap (λ (o : Outcome). o.value) q)))
-      go (Refused k) (Length n) p q = absurd (some_length (sym (ap (λ (o : Outcome). o.number) q)) (sym (ap (λ (o : Outcome). o.value) p)))
-      go (Refused k) (Refused l) p q = let d = p ∙ sym q in (ap Refused (ap (λ (o : Outcome). o.number) d), ap (λ (o : Outcome). o.memory) d)
+  one_finished {r} {s} {ys} {zs} p q = same_outcome r s ys zs (p ∙ sym q)

@@ -13,7 +13,7 @@ ghost use Rattle.sections.specs.Order.{order_most, order_ids, all_among};
 ghost use Rattle.module.specs.Module.{header};
 ghost use Rattle.module.specs.Finish.{outcome, building, finishing};
 
-use format::Written;
+use format::{Refusal, Written};
 use frames::{State, is_over};
 use order::is_order;
 pub use sections::Given;
@@ -22,7 +22,7 @@ use sections::{put_sections, sections_len};
 // The most ids of an order list.
 const ORDER_MOST: usize = 32;
 
-#[derive(Clone, Copy)]
+#[derive(Clone, Copy, Debug, PartialEq, Eq)]
 pub struct Module {}
 
 impl Module {
@@ -30,12 +30,8 @@ impl Module {
     pub const HEADER: [u8; 8] = [0x00, 0x61, 0x73, 0x6D, 0x01, 0x00, 0x00, 0x00];
 }
 
-// What finishing answers: how many bytes the module has, or a number of the table, and then nothing was changed.
-#[derive(Clone, Copy)]
-pub enum Finished {
-    Length(usize),
-    Refused(u32),
-}
+// What finishing answers: how many bytes the module has, or a refusal, and then nothing was changed.
+pub type Finished = Result<usize, Refusal>;
 
 // Every module begins with it, and one of no sections is it.
 pub fn put_header(out: &mut [u8]) -> Written
@@ -50,29 +46,22 @@ fn build(frames: &[u8], order: &[u8], given: Given, out: &mut [u8]) -> Finished
     requires frames_within { length frames.now ≤ store_most }
     ensures { outcome result out.new ≡ building (ending order.now given) (run frame frames.now) out.old }
 {
-    let t = frames::tally(frames);
-    if !t.are {
-        return Finished::Refused(9);
+    let tallies = frames::tally(frames).ok_or(Refusal::NoFrames)?;
+    if out.len() < 8 + sections_len(order, tallies, given) {
+        return Err(Refusal::OutputShort);
     }
-    if out.len() < 8 + sections_len(order, t, given) {
-        return Finished::Refused(10);
-    }
-    put_header(out);
-    Finished::Length(8 + put_sections(frames, order, t, given, &mut out[8..]))
+    let n = put_header(out).unwrap();
+    Ok(n + put_sections(frames, order, tallies, given, &mut out[n..]))
 }
 
 pub fn finish(state: State, store: &[u8], order: &[u8], given: Given, out: &mut [u8]) -> Finished
     ensures { outcome result out.new ≡ finishing state store.now (ending order.now given) out.old }
 {
     if is_over(state, store) {
-        return Finished::Refused(1);
+        return Err(Refusal::StoreOver);
     }
-    if ORDER_MOST < order.len() {
-        return Finished::Refused(8);
+    if ORDER_MOST < order.len() || !is_order(order) {
+        return Err(Refusal::BadOrder);
     }
-    if !is_order(order) {
-        return Finished::Refused(8);
-    }
-    let used = state.used;
-    build(&store[0..used], order, given, out)
+    build(&store[..state.used], order, given, out)
 }

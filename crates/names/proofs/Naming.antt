@@ -4,18 +4,19 @@ use mathlib.Core.Logic.{◌↔◌}
 use mathlib.Core.Bool.{Bool, true, false}
 use mathlib.Core.Option.{Option, none, some, map}
 use mathlib.Core.List.{List, ◌∷◌}
-use Prim.Native.Nat.{ℕ, zero, suc, ◌+◌, ◌-◌, ◌≤◌, ◌<◌, ◌^◌}
+use Prim.Native.Nat.{ℕ, zero, suc, ◌+◌, ◌-◌, ◌≤◌, ◌<◌}
 use native.Mathlib.Omega.{arith}
-use mir.Syntax.{w8, w64}
-use mir.Val.{Fits}
 use lib.ListN.{length, get_or, drop, length-append, length-drop}
 use Rattle.format.specs.Parsed.{Parsed, fail, got}
-use Rattle.format.specs.Read.{rest_at, drop_end}
+use Rattle.format.specs.Read.{place_of, rest_at, drop_end}
 use Rattle.format.specs.Runs.{run, run_more_lem, run_stop, run_none}
+use Rattle.std.specs.Prelude.{Some, None}
+use Rattle.std.specs.Prelude as code
+use Rattle.std.proofs.lemmas.Option.{none-some, same_Some}
 use Rattle.names.specs.Utf8.{utf8}
 use Rattle.names.specs.Char.{char, char_some, wide}
 use Rattle.names.specs.Name.{is_name, found, NamedTo}
-use Rattle.names.specs.Place.{end_of, EndsAt, Leading}
+use Rattle.names.specs.Place.{end_of, EndsAt}
 use Rattle.names.specs.Plain.{plain_name}
 use Rattle.plain.specs.Plain.{Plain, IsPlain, Bits}
 use Rattle.names.proofs.Reading.{plain, is_wide}
@@ -53,41 +54,39 @@ pass_plains s i (suc n) h p =
     pass_plains s i n (omega arith) (λ k l m. p k l (omega arith)) ∙ pass_plain s (i + n) (i + suc n) (sym e) (omega arith) (p (i + n) (omega arith) (omega arith))
 
 -- a wide one, by where it ends
-module _ {s : List ℕ} {at : ℕ} (h : at < length s) (k : 0x7F < get_or s at 0) {end : ℕ} (e : EndsAt wide s at end) where
-  at_char : (m : Parsed ℕ) → char.parse (drop at s) ≡ m → end ≡ end_of s m
-  at_char m p = e.is ∙ ap (end_of s) (sym (is_wide s at h (omega arith)) ∙ p)
+module _ {s : List ℕ} {at : ℕ} (h : at < length s) (k : 0x7F < get_or s at 0) where
+  at_char : {o : code.Option ℕ} → EndsAt wide s at o → (m : Parsed ℕ) → char.parse (drop at s) ≡ m → o ≡ end_of s m
+  at_char e m p = e.is ∙ ap (end_of s) (sym (is_wide s at h (omega arith)) ∙ p)
 
-  none_there : end ≡ 0 → char.parse (drop at s) ≡ fail
-  none_there z = go (char.parse (drop at s)) refl
+  pub none_passed : EndsAt wide s at None → NamedTo s 0 at → false ≡ is_name s
+  unfolding is_name
+  none_passed e n = sym (n.same ∙ ap found (run_stop char char_some (drop at s) (omega (arith, length-drop at s)) (go (char.parse (drop at s)) refl)))
     where
       go : (m : Parsed ℕ) → char.parse (drop at s) ≡ m → m ≡ fail
       go fail p = refl
-      go (got c r) p = absurd (omega (arith, taken s at c r p, at_char (got c r) p))
+      go (got c r) p = absurd (none-some (place_of s r) (at_char e (got c r) p))
 
-  char_passed : (end ≡ 0 → ⊥) → (at < end) × NamedTo s at end
-  char_passed z = go (char.parse (drop at s)) refl
-    where
-      go : (m : Parsed ℕ) → char.parse (drop at s) ≡ m → (at < end) × NamedTo s at end
-      go fail p = absurd (z (at_char fail p))
-      go (got c r) p =
-          let q = at_char (got c r) p in
-          let (d, w) = rest_at char s at c r p in
-          let t = taken s at c r p in
-          (omega arith, record { after = omega arith; within = omega arith; same = pass s at c end h (p ∙ ap (got c) (d ∙ ap (λ (i : ℕ). drop i s) (sym q))) })
+  module _ {end : ℕ} (e : EndsAt wide s at (Some end)) where
+    char_passed : (at < end) × NamedTo s at end
+    char_passed = go (char.parse (drop at s)) refl
+      where
+        go : (m : Parsed ℕ) → char.parse (drop at s) ≡ m → (at < end) × NamedTo s at end
+        go fail p = absurd (none-some end (sym (at_char e fail p)))
+        go (got c r) p =
+            let q : end ≡ place_of s r = same_Some end (place_of s r) (at_char e (got c r) p) in
+            let (d, w) = rest_at char s at c r p in
+            let t = taken s at c r p in
+            (omega arith, record { after = omega arith; within = omega arith; same = pass s at c end h (p ∙ ap (got c) (d ∙ ap (λ (i : ℕ). drop i s) (sym q))) })
 
-  pub less_left : (end ≡ 0 → ⊥) → length s - end < length s - at
-  less_left z = omega (arith, (char_passed z).0)
+    pub less_left : length s - end < length s - at
+    less_left = omega (arith, char_passed.0)
 
-  pub wide_passed : {from : ℕ} → NamedTo s from at → (end ≡ 0 → ⊥) → NamedTo s from end
-  wide_passed n z = passed_then n (char_passed z).1
-
-  pub none_passed : NamedTo s 0 at → end ≡ 0 → false ≡ is_name s
-  unfolding is_name
-  none_passed n z = sym (n.same ∙ ap found (run_stop char char_some (drop at s) (omega (arith, length-drop at s)) (none_there z)))
+    pub wide_passed : {from : ℕ} → NamedTo s from at → NamedTo s from end
+    wide_passed n = passed_then n char_passed.1
 
 module _ {s : List ℕ} {from at : ℕ} (n : NamedTo s from at) where
-  pub eight_passed : 8 ≤ length s - at → {b : ℕ} → Bits s at (at + 8) b → b ≤ 0x7F → NamedTo s from (at + 8)
-  eight_passed h p k = passed_then n (record { after = omega arith; within = omega arith; same = pass_plains s at 8 (omega arith) (p.told (omega arith)) })
+  pub eight_passed : 8 ≤ length s - at → {b : ℕ} → Bits s at (at + 8) b → b ≤ 0x7F → {j : ℕ} → j ≡ at + 8 → NamedTo s from j
+  eight_passed h p k e = passed_then n (record { after = omega arith; within = omega arith; same = pass_plains s at 8 (omega arith) (p.told (omega arith)) ∙ ap (λ (i : ℕ). is_name (drop i s)) (sym e) })
 
   module _ (h : at < length s) (k : get_or s at 0 ≤ 0x7F) where
     pub plain_passed : NamedTo s from (at + 1)
@@ -99,14 +98,6 @@ module _ {s : List ℕ} {from at : ℕ} (n : NamedTo s from at) where
 pub all_passed : {s : List ℕ} {at : ℕ} → NamedTo s 0 at → length s ≤ at → true ≡ is_name s
 unfolding is_name
 all_passed {s} {at} n h = sym (n.same ∙ ap (λ (r : List ℕ). found (run char r)) (drop_end s at h) ∙ ap found (run_none char char_some))
-
--- a byte that is not plain begins a wide one
-pub wide_begins : {s : List ℕ} {at : ℕ} → at < length s → ((j : ℕ) → Fits w8 (get_or s j 0)) → 0x7F < get_or s at 0 → Leading s at (get_or s at 0) 0x80 0x100
-wide_begins {at = at} h each k = record { within = h; is = refl; from = k; below = omega (arith, each at) }
-
--- eight more do not leave the slice
-pub eight_fits : (s : List ℕ) (i : ℕ) → 8 ≤ length s - i → length s < 2 ^ 63 → Fits w64 (i + 8)
-eight_fits s i h k = record { fits = omega arith }
 
 pub plain_is : (s : List ℕ) {r : Bool} → (r ≡ true) ↔ IsPlain s → r ≡ true → true ≡ is_name s
 plain_is s e t = sym (plain_name s (e.0 t))

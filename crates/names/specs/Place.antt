@@ -1,16 +1,16 @@
 -- Where a character that begins at a place ends, and which second bytes there are. Assumes nothing.
-use Rattle.std.specs.Prelude.{◌≡◌, Bool, cond, not, ◌&&◌, List, ℕ, ◌≤◌, ◌<◌, eqb, ltb, length, get_or, drop}
+use Rattle.std.specs.Prelude.{◌≡◌, Bool, cond, not, ◌&&◌, List, ℕ, ◌≤◌, ◌<◌, eqb, ltb, length, get_or, drop, Option, Some, None}
 use Rattle.format.specs.Parsed.{Parsed, fail, got}
 use Rattle.format.specs.Format.{Format}
 use Rattle.format.specs.Read.{place_of}
 
--- 0 where none does
-abbrev pub end_of : List ℕ → Parsed ℕ → ℕ
-end_of s fail = 0
-end_of s (got c r) = place_of s r
+-- none where none does
+abbrev pub end_of : List ℕ → Parsed ℕ → Option ℕ
+end_of s fail = None
+end_of s (got c r) = Some (place_of s r)
 
 -- r is where a character that is read at a place of s ends
-pub record EndsAt (F : Format ℕ) (s : List ℕ) (at r : ℕ) : Type 0 where
+pub record EndsAt (F : Format ℕ) (s : List ℕ) (at : ℕ) (r : Option ℕ) : Type 0 where
   pub is : r ≡ end_of s (F.parse (drop at s))
 
 -- a character begins at a place of s with the byte b, which is from lo on and below hi

@@ -8,7 +8,7 @@ use Rattle.format.specs.Count.{Appends, adds_nil}
 use Rattle.format.specs.Sequence.{dep_known}
 use Rattle.format.specs.Walk.{walks_as}
 use Rattle.format.specs.declared.Done.{Done}
-use Rattle.format.specs.declared.Walk.{Walk}
+use Rattle.format.specs.Walk.{Walk}
 use Rattle.texts.specs.Section.{Section}
 use Rattle.parts.specs.Writing.{lowest_behind, Writing}
 use Rattle.parts.specs.Reading.{Reading}

@@ -10,15 +10,14 @@ use Rattle.format.specs.Read.{drop_more, place_of, place_at, read_on, ends_at}
 use Rattle.format.specs.Sequence.{dep_known}
 use Rattle.format.specs.Walk.{Walked, Walks, nothing_there, not_found, gone, walks_as}
 use Rattle.format.specs.declared.Done.{Done}
-use Rattle.format.specs.declared.Walk.{Walk}
-use Rattle.format.specs.declared.Walk.TheVariants as walks
+use Rattle.format.specs.Walk.{Walk}
+use Rattle.std.specs.Prelude.{Option, None, Some}
 use Rattle.texts.specs.Section.{Section, textless}
 use Rattle.texts.specs.Text.{Kind}
 use Rattle.texts.specs.Place.{text_at}
 use Rattle.texts.specs.Spans.{span}
 use Rattle.texts.specs.declared.Span.{Span}
-use Rattle.texts.specs.declared.TextAt.{TextAt}
-use Rattle.texts.specs.declared.TextAt.TheVariants.{At, No}
+use Rattle.std.specs.Prelude.{Option}
 use Rattle.parts.specs.Text.{Holding, text}
 use Rattle.parts.specs.Both.{both, behind}
 
@@ -31,9 +30,9 @@ module _ {A B : Type 0} (S : Section A B) where
     pub reads : at ≤ length b → Walks S.bytes (record_at at) silent b at old s new r
 
 -- a text that was found: its span is appended
-abbrev pub FoundReads : TextAt → List ℕ → Done → List ℕ → Walk → Type 0
-FoundReads No old s new r = r ≡ walks.No
-FoundReads (At v) old s new r = (u : Done) × (r ≡ walks.Got (v.start + v.len) u) × Appends (span.print v) old s new u
+abbrev pub FoundReads : Option Span → List ℕ → Done → List ℕ → Walk → Type 0
+FoundReads None old s new r = r ≡ None
+FoundReads (Some v) old s new r = (u : Done) × (r ≡ Some (v.start + v.len, u)) × Appends (span.print v) old s new u
 
 -- F: its bytes; place: its span, where they begin; it ends where they do
 pub found_reads : (k : Kind) (F : Format (List ℕ)) (place : ℕ → List ℕ → Span) (H : Holding k F place)
@@ -47,22 +46,22 @@ found_reads k F place H end b at old s new r x = record { reads = λ h. record {
         let on = read_on F b at v q h p in
         let e : q ≡ drop (at + length (F.print v)) b = got_rest (sym p ∙ on.0) in
         let l : place_of b q ≡ (place at v).start + (place at v).len = ap (place_of b) e ∙ place_at b (at + length (F.print v)) on.1 ∙ sym (end at v) in
-        (y.0, y.1 ∙ ap (λ (n : ℕ). walks.Got n y.0) (sym l), y.2)
+        (y.0, y.1 ∙ ap (λ (n : ℕ). Some (n, y.0)) (sym l), y.2)
 
 -- what a text's finder told, and what was appended of it
 pub text_reads : (k : Kind) (F : Format (List ℕ)) (place : ℕ → List ℕ → Span) (H : Holding k F place)
-    → ((n : ℕ) (b : List ℕ) → (place n b).start + (place n b).len ≡ n + length (F.print b)) → {found : TextAt} {b : List ℕ} {at : ℕ} {old : List ℕ} {s : Done} {new : List ℕ} {r : Walk}
+    → ((n : ℕ) (b : List ℕ) → (place n b).start + (place n b).len ≡ n + length (F.print b)) → {found : Option Span} {b : List ℕ} {at : ℕ} {old : List ℕ} {s : Done} {new : List ℕ} {r : Walk}
     → found ≡ text_at (place at) (F.parse (drop at b)) → FoundReads found old s new r → Reading (text k F place H) b at old s new r
 text_reads k F place H end {b = b} {at} {old} {s} {new} {r} e x = found_reads k F place H end b at old s new r (rw e at x)
 
 -- ---- one behind the other
 
 module _ {A B C D : Type 0} (S : Section A B) (T : Section C D) {b : List ℕ} {at : ℕ} {old : List ℕ} {s : Done} {new : List ℕ} {r : Walk} where
-  pub part_missing : Reading S b at old s new r → r ≡ walks.No → Reading (both S T) b at old s new walks.No
+  pub part_missing : Reading S b at old s new r → r ≡ None → Reading (both S T) b at old s new None
   part_missing x e =
       record { reads = λ h. nothing_there (rw (not_found (x.reads h) e)) }
 
-  pub part_follows : {cur : List ℕ} {p : ℕ} {u : Done} {r' : Walk} → Reading S b at old s cur r → r ≡ walks.Got p u → Reading T b p cur u new r' → Reading (both S T) b at old s new r'
+  pub part_follows : {cur : List ℕ} {p : ℕ} {u : Done} {r' : Walk} → Reading S b at old s cur r → r ≡ Some (p, u) → Reading T b p cur u new r' → Reading (both S T) b at old s new r'
   part_follows {cur} {p} {u} {r'} x e y = record { reads = go }
     where
       go : at ≤ length b → Walks (both S T).bytes (record_at (both S T) at) silent b at old s new r'
@@ -78,10 +77,10 @@ pub textless_reads : {A : Type 0} (W F : Format A) (same : Agree W F) {b : List 
 textless_reads W F same x = record { reads = λ h. x }
 
 module _ {A C D : Type 0} (W F : Format A) (same : Agree W F) (T : Section C D) {b : List ℕ} {at : ℕ} {old : List ℕ} {s : Done} {new : List ℕ} {r : Walk} where
-  pub textless_missing : Walks F W.print silent b at old s new r → r ≡ walks.No → Reading (both (textless W F same) T) b at old s new walks.No
+  pub textless_missing : Walks F W.print silent b at old s new r → r ≡ None → Reading (both (textless W F same) T) b at old s new None
   textless_missing x e = part_missing (textless W F same) T (textless_reads W F same x) e
 
-  pub follows_textless : {cur : List ℕ} {p : ℕ} {u : Done} {r' : Walk} → Walks F W.print silent b at old s cur r → r ≡ walks.Got p u → Reading T b p cur u new r'
+  pub follows_textless : {cur : List ℕ} {p : ℕ} {u : Done} {r' : Walk} → Walks F W.print silent b at old s cur r → r ≡ Some (p, u) → Reading T b p cur u new r'
       → Reading (both (textless W F same) T) b at old s new r'
   follows_textless x e y = part_follows (textless W F same) T (textless_reads W F same x) e y
 

@@ -1,5 +1,6 @@
 -- A text as a part of records and items (document 01, Records: a span is two words; Items to bytes): a name, an expression, data. Like a section, a part has
 -- words, texts and bytes. Assumes nothing.
+use Rattle.std.specs.Prelude.{Option, None, Some}
 use Rattle.std.specs.Prelude.{◌≡◌, refl, List, [], ◌∷◌, ◌++◌, ℕ, ◌+◌, ◌<◌, ◌≤◌, ◌^◌, length, drop}
 use Rattle.std.proofs.Common.{ap, ◌∙◌, arith}
 use Rattle.format.specs.Parsed.{Parsed, fail, got}
@@ -17,8 +18,7 @@ use Rattle.texts.specs.Allowed.{IsKind}
 use Rattle.texts.specs.Held.{Holds, held, sized_held, held_allowed}
 use Rattle.texts.specs.Section.{Section}
 use Rattle.texts.specs.declared.Span.{Span}
-use Rattle.texts.specs.declared.TextAt.{TextAt}
-use Rattle.texts.specs.declared.TextAt.TheVariants.{At, No}
+use Rattle.std.specs.Prelude.{Option}
 
 -- F: the bytes of a text of the kind k; place: its span, where they begin
 pub record Holding (k : Kind) (F : Format (List ℕ)) (place : ℕ → List ℕ → Span) : Type 0 where
@@ -67,23 +67,23 @@ abbrev pub content : Section Span (List ℕ)
 content = text plain (sized u32) sized_at plain_holds
 
 -- a span that was read of words, as an answer
-abbrev pub span_of : Parsed Span → TextAt
-span_of fail = No
-span_of (got v r) = At v
+abbrev pub span_of : Parsed Span → Option Span
+span_of fail = None
+span_of (got v r) = Some v
 
 module _ (w : List ℕ) (at : ℕ) where
-  pub span_not : span_of (span.parse (drop at w)) ≡ No → span.parse (drop at w) ≡ fail
+  pub span_not : span_of (span.parse (drop at w)) ≡ None → span.parse (drop at w) ≡ fail
   span_not e = go (span.parse (drop at w)) e
     where
-      go : (m : Parsed Span) → span_of m ≡ No → m ≡ fail
+      go : (m : Parsed Span) → span_of m ≡ None → m ≡ fail
       go fail q = refl
       go (got v r) q = let z : ◌≡◌ {A = ℕ} 0 1 = cc in absurd (omega arith)
 
   -- it takes two words
-  pub span_is : (v : Span) → span_of (span.parse (drop at w)) ≡ At v → (span.parse (drop at w) ≡ got v (drop (at + 2) w)) × (at + 2 ≤ length w)
+  pub span_is : (v : Span) → span_of (span.parse (drop at w)) ≡ Some v → (span.parse (drop at w) ≡ got v (drop (at + 2) w)) × (at + 2 ≤ length w)
   span_is v e = go (span.parse (drop at w)) refl e
     where
-      go : (m : Parsed Span) → span.parse (drop at w) ≡ m → span_of m ≡ At v → (span.parse (drop at w) ≡ got v (drop (at + 2) w)) × (at + 2 ≤ length w)
+      go : (m : Parsed Span) → span.parse (drop at w) ≡ m → span_of m ≡ Some v → (span.parse (drop at w) ≡ got v (drop (at + 2) w)) × (at + 2 ≤ length w)
       go fail p q = let z : ◌≡◌ {A = ℕ} 0 1 = cc in absurd (omega arith)
       go (got u r) p q =
           let u' : u ≡ v = cc in

@@ -9,14 +9,13 @@ use Rattle.format.specs.Count.{Adds, Appends, no_refusal, silent, adds_nil, adds
 use Rattle.format.specs.Sequence.{Joins, leaves, pair_plain, first_missing, second_follows}
 use Rattle.format.specs.Walk.{Walks, value_there, walks_as}
 use Rattle.format.specs.declared.Done.{Done}
-use Rattle.format.specs.declared.Walk.{Walk}
-use Rattle.format.specs.declared.Walk.TheVariants as walks
+use Rattle.format.specs.Walk.{Walk}
+use Rattle.std.specs.Prelude.{Option, None, Some}
 use Rattle.texts.specs.Text.{Kind, slice_of, refusal_of, lowest_of, lowest_small}
 use Rattle.texts.specs.Section.{Section, textless}
 use Rattle.texts.specs.Spans.{span}
 use Rattle.texts.specs.declared.Span.{Span}
-use Rattle.texts.specs.declared.TextAt.{TextAt}
-use Rattle.texts.specs.declared.TextAt.TheVariants.{At, No}
+use Rattle.std.specs.Prelude.{Option}
 use Rattle.parts.specs.Text.{Holding, text, span_of, span_not, span_is}
 use Rattle.parts.specs.Both.{both, behind}
 
@@ -33,22 +32,22 @@ module _ {A B : Type 0} (S : Section A B) (t : List ℕ) where
 
 -- a text: by its span in the words
 module _ (k : Kind) (F : Format (List ℕ)) (place : ℕ → List ℕ → Span) (H : Holding k F place) (t w : List ℕ) (at : ℕ) (old : List ℕ) (s : Done) (new : List ℕ) where
-  pub text_no : span_of (span.parse (drop at w)) ≡ No → Writing (text k F place H) t w at old s new walks.No
+  pub text_no : span_of (span.parse (drop at w)) ≡ None → Writing (text k F place H) t w at old s new None
   text_no e = record { writes = record { walked = rw (span_not w at e) refl } }
 
-  pub text_got : (v : Span) (u : Done) → span_of (span.parse (drop at w)) ≡ At v → Adds (F.print (slice_of t v)) (refusal_of t k v) old s new u
-      → Writing (text k F place H) t w at old s new (walks.Got (at + 2) u)
+  pub text_got : (v : Span) (u : Done) → span_of (span.parse (drop at w)) ≡ Some v → Adds (F.print (slice_of t v)) (refusal_of t k v) old s new u
+      → Writing (text k F place H) t w at old s new (Some (at + 2, u))
   text_got v u e a =
       let (p, h) = span_is w at v e in
       record { writes = value_there {a = v} (adds_eq (append-nil (F.print (slice_of t v))) refl (adds_seq a (adds_nil new u))) p h }
 
 -- what a span's finder told, and what was appended of it
-module _ (k : Kind) (F : Format (List ℕ)) (place : ℕ → List ℕ → Span) (H : Holding k F place) {found : TextAt} {t w : List ℕ} {at : ℕ} {old : List ℕ} {s : Done} {new : List ℕ} where
-  pub span_missing : found ≡ span_of (span.parse (drop at w)) → found ≡ No → Writing (text k F place H) t w at old s new walks.No
+module _ (k : Kind) (F : Format (List ℕ)) (place : ℕ → List ℕ → Span) (H : Holding k F place) {found : Option Span} {t w : List ℕ} {at : ℕ} {old : List ℕ} {s : Done} {new : List ℕ} where
+  pub span_missing : found ≡ span_of (span.parse (drop at w)) → found ≡ None → Writing (text k F place H) t w at old s new None
   span_missing d e = text_no k F place H t w at old s new (sym d ∙ e)
 
-  pub text_writes : {v : Span} {u : Done} → found ≡ At v → found ≡ span_of (span.parse (drop at w)) → Adds (F.print (slice_of t v)) (refusal_of t k v) old s new u
-      → Writing (text k F place H) t w at old s new (walks.Got (at + 2) u)
+  pub text_writes : {v : Span} {u : Done} → found ≡ Some v → found ≡ span_of (span.parse (drop at w)) → Adds (F.print (slice_of t v)) (refusal_of t k v) old s new u
+      → Writing (text k F place H) t w at old s new (Some (at + 2, u))
   text_writes {v} {u} e d a = text_got k F place H t w at old s new v u (sym d ∙ e) a
 
 -- texts in two lists draw the lower of the refusals that each draws
@@ -73,10 +72,10 @@ module _ {A B C D : Type 0} (S : Section A B) (T : Section C D) (t : List ℕ) w
       }
 
 module _ {A B C D : Type 0} (S : Section A B) (T : Section C D) {t w : List ℕ} {at : ℕ} {old : List ℕ} {s : Done} {new : List ℕ} {r : Walk} where
-  pub part_missing : Writing S t w at old s new r → r ≡ walks.No → Writing (both S T) t w at old s new walks.No
+  pub part_missing : Writing S t w at old s new r → r ≡ None → Writing (both S T) t w at old s new None
   part_missing x e = record { writes = first_missing (both_joins S T t) x.writes e }
 
-  pub part_follows : {cur : List ℕ} {p : ℕ} {u : Done} {r' : Walk} → Writing S t w at old s cur r → r ≡ walks.Got p u → Writing T t w p cur u new r' → Writing (both S T) t w at old s new r'
+  pub part_follows : {cur : List ℕ} {p : ℕ} {u : Done} {r' : Walk} → Writing S t w at old s cur r → r ≡ Some (p, u) → Writing T t w p cur u new r' → Writing (both S T) t w at old s new r'
   part_follows x e y = record { writes = second_follows (both_joins S T t) x.writes e y.writes }
 
 -- what holds no text, and such a part in front
@@ -85,10 +84,10 @@ pub textless_writes : {A : Type 0} (W F : Format A) (same : Agree W F) {t w : Li
 textless_writes W F same x = record { writes = x }
 
 module _ {A C D : Type 0} (W F : Format A) (same : Agree W F) (T : Section C D) {t w : List ℕ} {at : ℕ} {old : List ℕ} {s : Done} {new : List ℕ} {r : Walk} where
-  pub textless_missing : Walks W F.print silent w at old s new r → r ≡ walks.No → Writing (both (textless W F same) T) t w at old s new walks.No
+  pub textless_missing : Walks W F.print silent w at old s new r → r ≡ None → Writing (both (textless W F same) T) t w at old s new None
   textless_missing x e = part_missing (textless W F same) T (textless_writes W F same x) e
 
-  pub follows_textless : {cur : List ℕ} {p : ℕ} {u : Done} {r' : Walk} → Walks W F.print silent w at old s cur r → r ≡ walks.Got p u → Writing T t w p cur u new r'
+  pub follows_textless : {cur : List ℕ} {p : ℕ} {u : Done} {r' : Walk} → Walks W F.print silent w at old s cur r → r ≡ Some (p, u) → Writing T t w p cur u new r'
       → Writing (both (textless W F same) T) t w at old s new r'
   follows_textless x e y = part_follows (textless W F same) T (textless_writes W F same x) e y
 

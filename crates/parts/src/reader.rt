@@ -6,32 +6,28 @@ ghost use Rattle.parts.specs.Text.{name, name_bytes, expression, content};
 ghost use Rattle.parts.specs.Reading.{Reading, FoundReads};
 
 use format::{Done, Walk};
-use texts::{TextAt, append_span, find_data, find_expr};
+use texts::{Span, append_span, find_data, find_expr};
 
 // Where a name stands: data that is UTF-8.
-pub fn find_name(b: &[u8], at: usize) -> TextAt
+pub fn find_name(b: &[u8], at: usize) -> Option<Span>
     requires { length b.now ≤ text_most }
     ensures { result ≡ text_at (sized_at at) (name_bytes.parse (drop at b.now)) }
 {
-    let TextAt::At(v) = find_data(b, at) else {
-        return TextAt::No;
-    };
+    let v = find_data(b, at)?;
     let from = v.start as usize;
     let end = from + v.len as usize;
     if names::is_name(&b[from..end]) {
-        return TextAt::At(v);
+        return Some(v);
     }
-    TextAt::No
+    None
 }
 
 // A text that was found: its span, and where it ends.
-fn append_found(found: TextAt, out: &mut [u32], s: Done) -> Walk
+fn append_found(found: Option<Span>, out: &mut [u32], s: Done) -> Walk
     ensures { FoundReads found out.old s out.new result }
 {
-    match found {
-        TextAt::At(v) => Walk::Got(v.start as usize + v.len as usize, append_span(v, out, s)),
-        TextAt::No => Walk::No,
-    }
+    let v = found?;
+    Some((v.start as usize + v.len as usize, append_span(v, out, s)))
 }
 
 pub fn read_name(b: &[u8], at: usize, out: &mut [u32], s: Done) -> Walk

@@ -10,16 +10,15 @@ use lib.IntN.{pos}
 use lib.ListN.{length, get_or, drop, length-append}
 use borrow.Author.Tests.{ne_eqb}
 use Rattle.format.specs.Parsed.{Parsed, fail, got, bind, map, map_same}
-use Rattle.format.specs.Leads.{LeadWalks, mark, mark_there, mark_missing, option, option_there, option_missing}
+use Rattle.format.specs.Leads.{LeadWalks, option, option_there, option_missing}
 use Rattle.format.specs.Alternatives.{opt}
-use Rattle.format.specs.Basic.{flag}
 use Rattle.format.specs.Count.{Appends, silent, adds_seq}
 use Rattle.format.specs.Read.{drop_more, too_few}
-use Rattle.format.specs.Dispatch.{Opens, opened}
+use Rattle.format.specs.Dispatch.{Opens, opened, opened_bare}
 use Rattle.format.specs.Walk.{Walks, nothing_there, value_there, walks_as}
 use Rattle.format.specs.declared.Done.{Done}
-use Rattle.format.specs.declared.Walk.{Walk}
-use Rattle.format.specs.declared.Walk.TheVariants as walks
+use Rattle.format.specs.Walk.{Walk}
+use Rattle.std.specs.Prelude.{None, Some}
 use Rattle.words.specs.Words.{word}
 use Rattle.leb128.proofs.Formats.{u32}
 use Rattle.format.specs.Lists.{prints}
@@ -55,50 +54,53 @@ module _ (w : List ℕ) (at : ℕ) (h : at < length w) where
       let q : (list_bytes Index).parse (drop at w) ≡ got [] (drop (at + 1) w) = ap (list_bytes Index).parse p ∙ (list_bytes Index).back [] (drop (at + 1) w) (omega arith, tt) in
       rw q
 
--- ---- the walks, by what was read and appended
-
-module _ {w : List ℕ} {at : ℕ} {old : List ℕ} {s : Done} {new : List ℕ} where
-  -- k and an index, or neither
-  pub option_walk : {k : ℕ} {cur : List ℕ} {t : Done} {r : Walk} → get_or w at 0 ≡ k → at < length w → Walks u32 word.print silent w (at + 1) cur t new r → Appends (1 ∷ []) old s cur t
-      → LeadWalks (option k u32) (opt word).print w at old s new r
-  option_walk {k} e h x a = opened (record { name = some; reads = option_there k u32; writes = λ n. refl; draws = λ n. refl }) e h x a
-
-  pub option_gone : (k : ℕ) {cur : List ℕ} {t u : Done} → (get_or w at 0 ≡ k → ⊥) → at < length w → Appends (0 ∷ []) old s cur t → Appends (0 ∷ []) cur t new u
-      → LeadWalks (option k u32) (opt word).print w at old s new (walks.Got at u)
-  option_gone k n h a b = value_there {a = none} (adds_seq a b) (rw (drop_more w at h) (option_missing k u32 (get_or w at 0) (drop (at + 1) w) n)) (omega arith)
-
-  pub mark_walk : {k : ℕ} {u : Done} → get_or w at 0 ≡ k → at < length w → Appends (1 ∷ []) old s new u → LeadWalks (mark k) flag.print w at old s new (walks.Got (at + 1) u)
-  mark_walk {k} e h a = value_there {a = true} a (rw (drop_more w at h, e) (mark_there k (drop (at + 1) w))) (omega arith)
-
-  pub mark_gone : (k : ℕ) {u : Done} → (get_or w at 0 ≡ k → ⊥) → at < length w → Appends (0 ∷ []) old s new u → LeadWalks (mark k) flag.print w at old s new (walks.Got at u)
-  mark_gone k n h a = value_there {a = false} a (rw (drop_more w at h) (mark_missing k (get_or w at 0) (drop (at + 1) w) n)) (omega arith)
-
-  -- supertypes of a final type
-  pub some_empty : length w ≤ at → Walks some_supers (λ xs. 1 ∷ (list_words Index).print xs) silent w at old s new walks.No
-  some_empty h = nothing_there (too_few some_supers 1 (omega arith) some_long w at (omega arith))
-
-  pub some-none : at < length w → get_or w at 0 ≡ 0 → Walks some_supers (λ xs. 1 ∷ (list_words Index).print xs) silent w at old s new walks.No
-  some-none h e = nothing_there (none_there w at h e)
-
-  pub some_walk : {cur : List ℕ} {t : Done} {r : Walk} → at < length w → (get_or w at 0 ≡ 0 → ⊥) → Appends (1 ∷ []) old s cur t → Walks (list_bytes Index) (list_words Index).print silent w at cur t new r
-      → Walks some_supers (λ xs. 1 ∷ (list_words Index).print xs) silent w at old s new r
-  some_walk h n a x = walks_as (λ xs. xs) (some_read w at h n ∙ map_same ((list_bytes Index).parse (drop at w))) (λ xs. refl) (λ xs. refl) a x
-
-  pub no_prefix : {cur : List ℕ} {t u : Done} → at < length w → (get_or w at 0 ≡ 0x50 → ⊥) → (get_or w at 0 ≡ 0x4F → ⊥) → Appends (1 ∷ []) old s cur t → Appends (0 ∷ []) cur t new u
-      → LeadWalks supers_lead supers_words.print w at old s new (walks.Got at u)
-  no_prefix h n m a b = value_there {a = (true, [])} (adds_seq a b) (rw (drop_more w at h, ne_eqb (get_or w at 0) 0x50 n, ne_eqb (get_or w at 0) 0x4F m)) (omega arith)
-
 -- 50 and a list; 4F and a list that is not empty
-pub open_list : Opens 0x50 (0 ∷ []) (list_bytes Index).parse (list_words Index).print silent supers_lead.parse supers_words.print silent
+open_list : Opens 0x50 (0 ∷ []) (list_bytes Index).parse (list_words Index).print silent supers_lead.parse supers_words.print silent
 open_list = record { name = λ xs. (false, xs); reads = λ s. go ((list_bytes Index).parse s); writes = λ xs. refl; draws = λ xs. refl }
   where
     go : (m : Parsed (List ℕ)) → bind (map inl m) (λ b r. got (prefix_of b) r) ≡ map (λ xs. (false, xs)) m
     go fail = refl
     go (got xs r) = refl
 
-pub final_list : Opens 0x4F [] some_supers.parse (λ xs. 1 ∷ (list_words Index).print xs) silent supers_lead.parse supers_words.print silent
+final_list : Opens 0x4F [] some_supers.parse (λ xs. 1 ∷ (list_words Index).print xs) silent supers_lead.parse supers_words.print silent
 final_list = record { name = λ xs. (true, xs); reads = λ s. go (some_supers.parse s); writes = λ xs. refl; draws = λ xs. refl }
   where
     go : (m : Parsed (List ℕ)) → bind (map inr (map inl m)) (λ b r. got (prefix_of b) r) ≡ map (λ xs. (true, xs)) m
     go fail = refl
     go (got xs r) = refl
+
+-- ---- the walks, by what was read and appended
+
+-- supertypes of a final type, at the end
+pub some_empty : {w : List ℕ} {at : ℕ} {old : List ℕ} {s : Done} {new : List ℕ} → length w ≤ at → Walks some_supers (λ xs. 1 ∷ (list_words Index).print xs) silent w at old s new None
+some_empty {w} {at} h = nothing_there (too_few some_supers 1 (omega arith) some_long w at (omega arith))
+
+-- else x stands at the place
+module _ {w : List ℕ} {at x : ℕ} (h : at < length w) (y : x ≡ get_or w at 0) {old : List ℕ} {s : Done} {new : List ℕ} where
+  -- k and an index, or neither
+  pub option_walk : {k : ℕ} {cur : List ℕ} {t : Done} {r : Walk} → x ≡ k → Walks u32 word.print silent w (at + 1) cur t new r → Appends (1 ∷ []) old s cur t
+      → LeadWalks (option k u32) (opt word).print w at old s new r
+  option_walk {k} e q a = opened (record { name = some; reads = option_there k u32; writes = λ n. refl; draws = λ n. refl }) (sym y ∙ e) h q a
+
+  pub option_gone : (k : ℕ) {cur : List ℕ} {t u : Done} → (x ≡ k → ⊥) → Appends (0 ∷ []) old s cur t → Appends (0 ∷ []) cur t new u → LeadWalks (option k u32) (opt word).print w at old s new (Some (at, u))
+  option_gone k n a b = value_there {a = none} (adds_seq a b) (rw (drop_more w at h, ← y) (option_missing k u32 x (drop (at + 1) w) n)) (omega arith)
+
+  -- supertypes of a final type
+  pub some-none : x ≡ 0 → Walks some_supers (λ xs. 1 ∷ (list_words Index).print xs) silent w at old s new None
+  some-none e = nothing_there (none_there w at h (sym y ∙ e))
+
+  pub some_walk : {cur : List ℕ} {t : Done} {r : Walk} → (x ≡ 0 → ⊥) → Appends (1 ∷ []) old s cur t → Walks (list_bytes Index) (list_words Index).print silent w at cur t new r
+      → Walks some_supers (λ xs. 1 ∷ (list_words Index).print xs) silent w at old s new r
+  some_walk n a q = walks_as (λ xs. xs) (some_read w at h (λ e. n (y ∙ e)) ∙ map_same ((list_bytes Index).parse (drop at w))) (λ xs. refl) (λ xs. refl) a q
+
+  -- supertypes, by their first byte
+  pub supers_open : {cur : List ℕ} {t : Done} {r : Walk} → x ≡ 0x50 → Appends (0 ∷ []) old s cur t → Walks (list_bytes Index) (list_words Index).print silent w (at + 1) cur t new r
+      → LeadWalks supers_lead supers_words.print w at old s new r
+  supers_open e a q = opened open_list (sym y ∙ e) h q a
+
+  pub supers_final : {r : Walk} → x ≡ 0x4F → Walks some_supers (λ xs. 1 ∷ (list_words Index).print xs) silent w (at + 1) old s new r → LeadWalks supers_lead supers_words.print w at old s new r
+  supers_final e q = opened_bare final_list (sym y ∙ e) h q
+
+  pub no_prefix : {cur : List ℕ} {t u : Done} → (x ≡ 0x50 → ⊥) → (x ≡ 0x4F → ⊥) → Appends (1 ∷ []) old s cur t → Appends (0 ∷ []) cur t new u
+      → LeadWalks supers_lead supers_words.print w at old s new (Some (at, u))
+  no_prefix n m a b = value_there {a = (true, [])} (adds_seq a b) (rw (drop_more w at h, ← y, ne_eqb x 0x50 n, ne_eqb x 0x4F m)) (omega arith)

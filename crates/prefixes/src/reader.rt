@@ -11,7 +11,7 @@ ghost use Rattle.lists.specs.declared.Member.TheVariants.{Index};
 ghost use Rattle.words.specs.Words.{word};
 ghost use Rattle.prefixes.specs.Prefix.{supers_words, supers_lead, some_supers};
 
-use format::{Done, Walk, append_word};
+use format::{Done, Walk, append};
 use lists::{Member, read_list};
 use words::read_index;
 
@@ -19,57 +19,46 @@ use words::read_index;
 pub fn read_option(k: u8, b: &[u8], at: usize, out: &mut [u32], s: Done) -> Walk
     ensures { LeadWalks (option k u32) (opt word).print b.now at out.old s out.new result }
 {
-    if b.len() <= at {
-        return Walk::No;
-    }
-    if b[at] == k {
-        let t = append_word(1, out, s);
+    if *b.get(at)? == k {
+        let t = append(1, out, s);
         return read_index(b, at + 1, out, t);
     }
-    let t = append_word(0, out, s);
-    Walk::Got(at, append_word(0, out, t))
+    let t = append(0, out, s);
+    Some((at, append(0, out, t)))
 }
 
 pub fn read_shared(b: &[u8], at: usize, out: &mut [u32], s: Done) -> Walk
     ensures { LeadWalks (mark 0x65) flag.print b.now at out.old s out.new result }
 {
-    if b.len() <= at {
-        return Walk::No;
+    if *b.get(at)? == 0x65 {
+        return Some((at + 1, append(1, out, s)));
     }
-    if b[at] == 0x65 {
-        return Walk::Got(at + 1, append_word(1, out, s));
-    }
-    Walk::Got(at, append_word(0, out, s))
+    Some((at, append(0, out, s)))
 }
 
 // Supertypes of a final type: an empty list would have no prefix.
 fn read_some(b: &[u8], at: usize, out: &mut [u32], s: Done) -> Walk
     ensures { Walks some_supers (λ xs. 1 ∷ (list_words Index).print xs) silent b.now at out.old s out.new result }
 {
-    if b.len() <= at {
-        return Walk::No;
+    if *b.get(at)? == 0 {
+        return None;
     }
-    if b[at] == 0 {
-        return Walk::No;
-    }
-    let t = append_word(1, out, s);
+    let t = append(1, out, s);
     read_list(Member::Index, b, at, out, t)
 }
 
 pub fn read_supers(b: &[u8], at: usize, out: &mut [u32], s: Done) -> Walk
     ensures { LeadWalks supers_lead supers_words.print b.now at out.old s out.new result }
 {
-    if b.len() <= at {
-        return Walk::No;
+    match *b.get(at)? {
+        0x50 => {
+            let t = append(0, out, s);
+            read_list(Member::Index, b, at + 1, out, t)
+        }
+        0x4F => read_some(b, at + 1, out, s),
+        _ => {
+            let t = append(1, out, s);
+            Some((at, append(0, out, t)))
+        }
     }
-    let x = b[at];
-    if x == 0x50 {
-        let t = append_word(0, out, s);
-        return read_list(Member::Index, b, at + 1, out, t);
-    }
-    if x == 0x4F {
-        return read_some(b, at + 1, out, s);
-    }
-    let t = append_word(1, out, s);
-    Walk::Got(at, append_word(0, out, t))
 }

@@ -8,7 +8,7 @@ ghost use Rattle.leb128.proofs.Formats.{u32};
 ghost use Rattle.words.specs.Words.{word};
 ghost use Rattle.prefixes.specs.Prefix.{supers_words, supers_lead};
 
-use format::{Done, Walk, append_byte};
+use format::{Done, Walk, append};
 use lists::{Member, walk_list};
 use numbers::append_u32;
 
@@ -16,63 +16,40 @@ use numbers::append_u32;
 pub fn walk_option(k: u8, words: &[u32], at: usize, out: &mut [u8], s: Done) -> Walk
     ensures { Walks (opt word) (option k u32).print silent words.now at out.old s out.new result }
 {
-    if words.len() <= at {
-        return Walk::No;
+    match words.get(at..)? {
+        &[1, x, ..] => {
+            let t = append(k, out, s);
+            Some((at + 2, append_u32(x, out, t)))
+        }
+        [0, 0, ..] => Some((at + 2, s)),
+        _ => None,
     }
-    if words.len() - at < 2 {
-        return Walk::No;
-    }
-    let x = words[at + 1];
-    if words[at] == 1 {
-        let t = append_byte(k, out, s);
-        return Walk::Got(at + 2, append_u32(x, out, t));
-    }
-    if words[at] != 0 {
-        return Walk::No;
-    }
-    if x != 0 {
-        return Walk::No;
-    }
-    Walk::Got(at + 2, s)
 }
 
 pub fn walk_shared(words: &[u32], at: usize, out: &mut [u8], s: Done) -> Walk
     ensures { Walks flag (mark 0x65).print silent words.now at out.old s out.new result }
 {
-    if words.len() <= at {
-        return Walk::No;
+    match *words.get(at)? {
+        0 => Some((at + 1, s)),
+        1 => Some((at + 1, append(0x65, out, s))),
+        _ => None,
     }
-    let f = words[at];
-    if f == 1 {
-        return Walk::Got(at + 1, append_byte(0x65, out, s));
-    }
-    if f != 0 {
-        return Walk::No;
-    }
-    Walk::Got(at + 1, s)
 }
 
 // Final without supertypes has no prefix.
 pub fn walk_supers(words: &[u32], at: usize, out: &mut [u8], s: Done) -> Walk
     ensures { Walks supers_words supers_lead.print silent words.now at out.old s out.new result }
 {
-    if words.len() <= at {
-        return Walk::No;
+    match words.get(at..)? {
+        [0, _, ..] => {
+            let t = append(0x50, out, s);
+            walk_list(Member::Index, words, at + 1, out, t)
+        }
+        [1, 0, ..] => Some((at + 2, s)),
+        [1, _, ..] => {
+            let t = append(0x4F, out, s);
+            walk_list(Member::Index, words, at + 1, out, t)
+        }
+        _ => None,
     }
-    if words.len() - at < 2 {
-        return Walk::No;
-    }
-    let f = words[at];
-    if f == 0 {
-        let t = append_byte(0x50, out, s);
-        return walk_list(Member::Index, words, at + 1, out, t);
-    }
-    if f != 1 {
-        return Walk::No;
-    }
-    if words[at + 1] == 0 {
-        return Walk::Got(at + 2, s);
-    }
-    let t = append_byte(0x4F, out, s);
-    walk_list(Member::Index, words, at + 1, out, t)
 }

@@ -1,18 +1,12 @@
--- What is appended of heap and reference types, case by case: their bytes, and word h of a record. Assumes nothing.
+-- What is appended of heap and reference types, case by case: their bytes. Assumes nothing.
 use mathlib.Core.Path.{◌≡◌, refl, sym, ◌∙◌}
 use mathlib.Core.Bool.{Bool, true, false, true≢false}
 use mathlib.Core.List.{List, [], ◌∷◌}
-use Prim.Native.Nat.{ℕ, ◌+◌, ◌*◌, ◌≤◌}
-use native.Mathlib.Omega.{arith}
-use lib.IntN.{pos}
-use mir.Syntax.{w32}
-use mir.Val.{Fits}
-use Rattle.format.specs.Basic.{bit, bit_small}
+use Prim.Native.Nat.{ℕ}
 use Rattle.format.specs.Count.{Appends, adds_eq, adds_seq}
 use Rattle.format.specs.declared.Done.{Done}
-use Rattle.leb128.specs.Leb.{uleb, sleb}
+use Rattle.leb128.specs.Leb.{uleb}
 use Rattle.types.specs.Abstract.{byte_of}
-use Rattle.types.specs.Words.{heap_kind, heap_kind_small, heap_shared, heap_index, ref_to, ref_words}
 use Rattle.types.specs.Bytes.{heap_bytes, ref_bytes, is_abs}
 use Rattle.types.specs.declared.AbstractHeapType.{AbstractHeapType}
 use Rattle.types.specs.declared.RefType.{RefType}
@@ -30,23 +24,6 @@ null_is true (Abstract s a) e h = absurd (true≢false h)
 null_is true (Concrete x) e h = refl
 null_is true (Exact x) e h = refl
 null_is false t e h = absurd (true≢false (sym e))
-
--- word h, put together
-pub head_is : (r : RefType) (k n s : ℕ) (f : Bool) → k ≡ heap_kind r.heap_type → n ≡ bit r.nullable → s ≡ bit f → f ≡ heap_shared r.heap_type
-    → k + 16 * n + 32 * s ≡ (ref_to r).0
-head_is r k n s f a b c d = rw (a, b, c, d)
-
--- and it fits
-pub bit_fits : (c : ℕ) → c ≤ 32 → (n : ℕ) (b : Bool) → n ≡ bit b → Fits w32 (c * n)
-bit_fits c h n true e = rw e (record { fits = omega arith })
-bit_fits c h n false e = rw e (record { fits = omega arith })
-
-module _ (k n : ℕ) (t : HeapType) (b : Bool) (d : k ≡ heap_kind t) (e : n ≡ bit b) where
-  pub kind_fits : Fits w32 (k + 16 * n)
-  kind_fits = record { fits = omega (arith, heap_kind_small t, bit_small b) }
-
-  pub head_fits : (m : ℕ) (f : Bool) → m ≡ bit f → Fits w32 (k + 16 * n + 32 * m)
-  head_fits m f g = record { fits = omega (arith, heap_kind_small t, bit_small b, bit_small f) }
 
 -- ---- what was appended: laws that leave out all that `search` finds
 
@@ -67,16 +44,5 @@ module _ {old : List ℕ} {s : Done} {cur : List ℕ} {u : Done} {new : List ℕ
     pub non_null_added : r.nullable ≡ false → Appends (0x64 ∷ []) old s cur u → Appends (heap_bytes.print r.heap_type) cur u new v → Appends (ref_bytes.print r) old s new v
     non_null_added n x y = adds_eq (rw n) refl (adds_seq x y)
 
-module _ {old : List ℕ} {s : Done} {new : List ℕ} {v : Done} where
-  module _ {t : HeapType} where
-    pub unshared_added : {f : Bool} {a : AbstractHeapType} {b : ℕ} → t ≡ Abstract f a → f ≡ false → b ≡ byte_of a → Appends (b ∷ []) old s new v → Appends (heap_bytes.print t) old s new v
-    unshared_added e g h x = adds_eq (rw (e, g, h)) refl x
-
-    pub concrete_added : {x : ℕ} → t ≡ Concrete x → Appends (sleb (pos x)) old s new v → Appends (heap_bytes.print t) old s new v
-    concrete_added e y = adds_eq (rw e) refl y
-
-  pub alone_added : (r : RefType) {f : Bool} → r.nullable ≡ true → f ≡ is_abs r.heap_type → f ≡ true → Appends (heap_bytes.print r.heap_type) old s new v → Appends (ref_bytes.print r) old s new v
-  alone_added r n d e x = adds_eq (alone_is r.nullable r.heap_type n (sym d ∙ e)) refl x
-
-  pub words_added : (r : RefType) {h i : ℕ} → Appends (h ∷ i ∷ []) old s new v → h ≡ (ref_to r).0 → i ≡ heap_index r.heap_type → Appends (ref_words.print r) old s new v
-  words_added r x d e = adds_eq (rw (d, e)) refl x
+pub alone_added : {old : List ℕ} {s : Done} {new : List ℕ} {v : Done} (r : RefType) {f : Bool} → r.nullable ≡ true → f ≡ is_abs r.heap_type → f ≡ true → Appends (heap_bytes.print r.heap_type) old s new v → Appends (ref_bytes.print r) old s new v
+alone_added r n d e x = adds_eq (alone_is r.nullable r.heap_type n (sym d ∙ e)) refl x

@@ -4,9 +4,9 @@ ghost use Rattle.format.specs.Walk.{Walks};
 ghost use Rattle.types.specs.Words.{ref_words};
 ghost use Rattle.types.specs.Bytes.{heap_bytes, ref_bytes};
 
-use format::{Done, Walk, append_byte};
+use format::{Done, Walk, append};
 use numbers::{append_index, append_u32};
-use types::{HeapType, RefRead, RefType};
+use types::{HeapType, RefType};
 
 fn append_heap(t: HeapType, out: &mut [u8], s: Done) -> Done
     ensures { Appends (heap_bytes.print t) out.old s out.new result }
@@ -14,14 +14,14 @@ fn append_heap(t: HeapType, out: &mut [u8], s: Done) -> Done
     match t {
         HeapType::Abstract { shared, ty } => {
             if shared {
-                let u = append_byte(0x65, out, s);
-                return append_byte(ty.byte(), out, u);
+                let u = append(0x65, out, s);
+                return append(ty.byte(), out, u);
             }
-            append_byte(ty.byte(), out, s)
+            append(ty.byte(), out, s)
         }
         HeapType::Concrete(x) => append_index(x, out, s),
         HeapType::Exact(x) => {
-            let u = append_byte(0x62, out, s);
+            let u = append(0x62, out, s);
             append_u32(x, out, u)
         }
     }
@@ -36,10 +36,10 @@ pub fn append_ref(r: RefType, out: &mut [u8], s: Done) -> Done
         if heap.is_abstract() {
             return append_heap(heap, out, s);
         }
-        let t = append_byte(0x63, out, s);
+        let t = append(0x63, out, s);
         return append_heap(heap, out, t);
     }
-    let t = append_byte(0x64, out, s);
+    let t = append(0x64, out, s);
     append_heap(heap, out, t)
 }
 
@@ -48,15 +48,15 @@ pub fn walk_ref(words: &[u32], at: usize, out: &mut [u8], s: Done) -> Walk
     ensures { Walks ref_words ref_bytes.print silent words.now at out.old s out.new result }
 {
     if words.len() <= at {
-        return Walk::No;
+        return None;
     }
     if words.len() - at < 2 {
-        return Walk::No;
+        return None;
     }
     let h = words[at];
     let x = words[at + 1];
-    let RefRead::Ref(r) = RefType::from_words(h, x) else {
-        return Walk::No;
+    let Some(r) = RefType::from_words(h, x) else {
+        return None;
     };
-    Walk::Got(at + 2, append_ref(r, out, s))
+    Some((at + 2, append_ref(r, out, s)))
 }

@@ -11,28 +11,27 @@ use mir.Val.{Fits}
 use borrow.Author.Tests.{leb-true}
 use borrow.Rule.Slice.PartMut.{put_mid, mid_of, same_len_mid}
 use Rattle.format.specs.Write.{rest_lent, rest_back}
-use Rattle.format.specs.declared.Written.{Written}
-use Rattle.format.specs.declared.Written.TheVariants.{Length, Short}
+use Rattle.std.specs.Prelude.{Option, None, Some}
 use Rattle.frames.specs.declared.State.{State}
 use Rattle.lines.specs.Answer.{Outcome, lined, answering, answers_line, answer_long}
 use Rattle.replies.specs.Run.{answer_to, Replied}
 use Rattle.replies.specs.declared.Run.{Run}
 
 -- x is what the answer tells of its length, and free is what it leaves of the rest of the output
-module _ (at : ℕ) (state : State) (line store buffer out : List ℕ) (x : Written) (after : State) (store' buffer' free : List ℕ)
+module _ (at : ℕ) (state : State) (line store buffer out : List ℕ) (x : Option ℕ) (after : State) (store' buffer' free : List ℕ)
     (room : at + (3 + 2 * length buffer) ≤ length out)
     (h : lined x after store' buffer' free ≡ answering state store buffer (mid_of at (length out - at) out) line) where
-  stands : {y : Written} → x ≡ y → lined y after store' buffer' free ≡ answering state store buffer (drop at out) line
+  stands : {y : Option ℕ} → x ≡ y → lined y after store' buffer' free ≡ answering state store buffer (drop at out) line
   stands e =
-      ap (λ (x : Written). lined x after store' buffer' free) (sym e)
+      ap (λ (x : Option ℕ). lined x after store' buffer' free) (sym e)
       ∙ h
       ∙ ap (λ (l : List ℕ). answering state store buffer l line) (rest_lent at out)
 
-  never_short : x ≡ Short → ⊥
+  never_short : x ≡ None → ⊥
   never_short e =
       true≢false (ap (λ (o : Outcome). o.room) (answers_line state store buffer (drop at out) line (omega (arith, length-drop at out)) ∙ sym (stands e)))
 
-  module _ {n : ℕ} (e : x ≡ Length n) where
+  module _ {n : ℕ} (e : x ≡ Some n) where
     within : at + n < length out
     within = omega (arith, ap (λ (o : Outcome). o.value) (stands e), answer_long state store buffer (drop at out) line)
 
@@ -45,12 +44,12 @@ module _ (at : ℕ) (state : State) (line store buffer out : List ℕ) (x : Writ
     pub feed_within : length free ≡ length (mid_of at (length out - at) out) → at + n < length (put_mid at (length out - at) out free)
     feed_within l = omega (arith, within, same_len_mid at (length out - at) out free l)
 
-module _ (r : Run) (line store buffer out : List ℕ) (x : Written) (after : State) (store' buffer' free : List ℕ) (room : r.at + (3 + 2 * length buffer) ≤ length out)
+module _ (r : Run) (line store buffer out : List ℕ) (x : Option ℕ) (after : State) (store' buffer' free : List ℕ) (room : r.at + (3 + 2 * length buffer) ≤ length out)
     (h : lined x after store' buffer' free ≡ answering r.state store buffer (mid_of r.at (length out - r.at) out) line) where
-  pub not_short : {o : Outcome} {s : Run} {store'' buffer'' out'' : List ℕ} → x ≡ Short → Replied r o out s store'' buffer'' out''
+  pub not_short : {o : Outcome} {s : Run} {store'' buffer'' out'' : List ℕ} → x ≡ None → Replied r o out s store'' buffer'' out''
   not_short e = absurd (never_short r.at r.state line store buffer out x after store' buffer' free room h e)
 
-  pub replied : {n : ℕ} → x ≡ Length n
+  pub replied : {n : ℕ} → x ≡ Some n
       → Replied r (answer_to r line store buffer out) out (record { state = after; n = 0; at = r.at + n + 1 }) store' buffer' (set (put_mid r.at (length out - r.at) out free) (r.at + n) 0x0A)
   replied {n} e =
       let d = stands r.at r.state line store buffer out x after store' buffer' free room h e in

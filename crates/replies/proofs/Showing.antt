@@ -9,7 +9,7 @@ use lib.ListN.{length, take, drop, set, length-append, length-take, length-drop}
 use lib.Seq.{take_all, take_at, take-nil, take-append-add, take-suc-set, length-take-le}
 use borrow.Rule.Slice.PartMut.{put_mid, mid_of, same_len_mid}
 use Rattle.format.specs.Write.{Writes, over, fits_or, todo, todo_end, todo_part}
-use Rattle.format.specs.declared.Written.{Written}
+use Rattle.format.specs.Write.{Written}
 use Rattle.hex_text.specs.Line.{line_of}
 use Rattle.lines.specs.Done.{doing}
 use Rattle.lines.specs.Answer.{Outcome, answer_line, answered, answers_line}
@@ -30,16 +30,14 @@ part_front line part n m h e =
     ap (λ (l : List ℕ). take n line ++ l) f ∙ sym (ap (λ (j : ℕ). take j (take n line ++ part)) k ∙ take-append-add (take n line) part (length line - n))
 
 pub part_gathered : (r : Run) (part line : List ℕ) {m : ℕ} {w : Written} (zs : List ℕ) → r.n ≤ length line → m ≡ min (length part) (length line - r.n)
-    → Writes (take (m - 0) (drop 0 part)) (mid_of r.n (length line - r.n) line) zs w → length zs ≡ length (mid_of r.n (length line - r.n) line)
+    → Writes (take m part) (mid_of r.n (length line - r.n) line) zs w → length zs ≡ length (mid_of r.n (length line - r.n) line)
     → Gathered r part line (put_mid r.n (length line - r.n) line zs) (record { state = r.state; n = r.n + m; at = r.at })
 part_gathered r part line {m} {w} zs h e x l =
     let n = r.n in
-    let z : m - 0 ≡ m = omega arith in
-    let v : Writes (take m part) (mid_of n (length line - n) line) zs w = rw z at x in
     let j : length (take m part) ≡ m = length-take-le m part (omega arith) in
     let whole : put_mid n (length line - n) line zs ≡ (take n line ++ take m part) ++ drop (n + length (take m part)) line =
     sym (todo_end (n + length (take m part)) (put_mid n (length line - n) line zs))
-    ∙ todo_part n (take m part) [] line v (omega arith)
+    ∙ todo_part n (take m part) [] line x (omega arith)
     ∙ ap (λ (p : List ℕ). todo n p line) (append-nil (take m part))
     ∙ sym (append_assoc (take n line) (take m part) (drop (n + length (take m part)) line)) in
     record {
@@ -79,22 +77,21 @@ waits_more at a xs h =
     ∙ append_assoc (take at xs) a (0x0A ∷ [])
 
 module _ (k : Kept) (r s : Run) (line store buffer out store' buffer' out' : List ℕ) (h : Shows k r line store buffer out) (l : length buffer ≡ buffer_long)
-    (g : r.at + longest ≤ length out) (w : Replied r (answer_to r (take (r.n - 0) (drop 0 line)) store buffer out) out s store' buffer' out') where
-  did : doing r.state store buffer (line_of (take (r.n - 0) (drop 0 line))) ≡ answer_of k
+    (g : r.at + longest ≤ length out) (w : Replied r (answer_to r (take r.n line) store buffer out) out s store' buffer' out') where
+  did : doing r.state store buffer (line_of (take r.n line)) ≡ answer_of k
   did =
-      let z : r.n - 0 ≡ r.n = omega arith in
-      let f : line_of (take (r.n - 0) (drop 0 line)) ≡ line_of k.line = rw z (ap line_of h.front ∙ front_tells k.line) in
+      let f : line_of (take r.n line) ≡ line_of k.line = ap line_of h.front ∙ front_tells k.line in
       λ i. doing (h.state i) (h.stored i) (h.built i) (f i)
 
-  said : answer_to r (take (r.n - 0) (drop 0 line)) store buffer out ≡ answered (drop r.at out) (answer_of k)
+  said : answer_to r (take r.n line) store buffer out ≡ answered (drop r.at out) (answer_of k)
   said =
-      sym (answers_line r.state store buffer (drop r.at out) (take (r.n - 0) (drop 0 line)) (omega (arith, length-drop r.at out)))
+      sym (answers_line r.state store buffer (drop r.at out) (take r.n line) (omega (arith, length-drop r.at out)))
       ∙ ap (answered (drop r.at out)) did
 
   shows_end : Shows (ended k) s line store' buffer' out'
   shows_end =
       let a = answer_line (answer_of k) in
-      let n : (answer_to r (take (r.n - 0) (drop 0 line)) store buffer out).value ≡ length a = ap (λ (o : Outcome). o.value) said in
+      let n : (answer_to r (take r.n line) store buffer out).value ≡ length a = ap (λ (o : Outcome). o.value) said in
       let at : s.at ≡ r.at + length a + 1 = ap (λ (r : Run). r.at) w.run ∙ ap (λ (j : ℕ). r.at + j + 1) n in
       let ys : out' ≡ set (take r.at out ++ over a (drop r.at out)) (r.at + length a) 0x0A =
       w.answers ∙ (λ i. set (take r.at out ++ (said i).out) (r.at + (said i).value) 0x0A) in
@@ -108,7 +105,7 @@ module _ (k : Kept) (r s : Run) (line store buffer out store' buffer' out' : Lis
 
 -- nothing of it is gathered any more, and its answer waits
 pub line_ends : {r s : Run} {line store buffer out store' buffer' out' : List ℕ} → Ready r line store buffer out → r.at + longest ≤ length out
-    → Replied r (answer_to r (take (r.n - 0) (drop 0 line)) store buffer out) out s store' buffer' out' → length store' ≡ length store → length buffer' ≡ length buffer
+    → Replied r (answer_to r (take r.n line) store buffer out) out s store' buffer' out' → length store' ≡ length store → length buffer' ≡ length buffer
     → length out' ≡ length out → Ends r line store buffer out s store' buffer' out'
 line_ends {r} {s} {line} {store} {buffer} {out} {store'} {buffer'} {out'} p g w t b o =
     record {

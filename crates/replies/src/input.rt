@@ -16,14 +16,9 @@ fn gather(part: &[u8], r: Run, line: &mut [u8]) -> Run
     ensures { Gathered r part.now line.old line.new result }
 {
     let n = r.n;
-    let m = format::least(part.len(), line.len() - n);
-    format::copy(&part[0..m], &mut line[n..]);
-    let state = r.state;
-    Run {
-        state: state,
-        n: n + m,
-        at: r.at,
-    }
+    let m = part.len().min(line.len() - n);
+    let _ = format::copy(&part[..m], &mut line[n..]);
+    Run { n: n + m, ..r }
 }
 
 // Where the next line feed of a piece stands from a place on, or the piece's end.
@@ -53,19 +48,20 @@ pub fn take_piece(
 {
     let mut run = r;
     let mut i = 0;
+    // From one line feed to the next: no place is counted up.
     while i < piece.len() {
         let end = line_end(piece, i);
         run = gather(&piece[i..end], run, line);
         if piece.len() <= end {
-            return Heard { run: run, to: end };
+            return Heard { run, to: end };
         }
         if out.len() - run.at < LONGEST {
-            return Heard { run: run, to: end };
+            return Heard { run, to: end };
         }
         run = end_line(run, line, store, buffer, out);
         i = end + 1;
     }
-    Heard { run: run, to: i }
+    Heard { run, to: i }
 }
 
 // A last line may lack its line feed; nothing after the last line feed is no line.

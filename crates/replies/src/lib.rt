@@ -8,7 +8,7 @@ pub use input::{end_input, take_piece};
 use thriftbell::State;
 
 // The state; how many characters of a line are gathered; and how many bytes of the output wait to be written, from its front on.
-#[derive(Clone, Copy)]
+#[derive(Clone, Copy, Debug, PartialEq, Eq)]
 pub struct Run {
     pub state: State,
     pub n: usize,
@@ -16,7 +16,7 @@ pub struct Run {
 }
 
 // The run behind a part of a piece, and how many characters that part has.
-#[derive(Clone, Copy)]
+#[derive(Clone, Copy, Debug, PartialEq, Eq)]
 pub struct Heard {
     pub run: Run,
     pub to: usize,

@@ -4,24 +4,20 @@ ghost use Rattle.replies.specs.Run.{longest, Ready, answer_to, Replied, Ends};
 
 use crate::Run;
 use lines::answer;
-use thriftbell::Written;
 
 fn reply(line: &[u8], r: Run, store: &mut [u8], buffer: &mut [u8], out: &mut [u8]) -> Run
     requires { r.at + (3 + 2 * length buffer.old) ≤ length out.old }
     ensures { Replied r (answer_to r line.now store.old buffer.old out.old) out.old result store.new buffer.new out.new }
 {
     let at = r.at;
-    let state = r.state;
-    let a = answer(line, state, store, buffer, &mut out[at..]);
-    let state = a.state;
-    let told = a.line;
-    let Written::Length(n) = told else {
+    let a = answer(line, r.state, store, buffer, &mut out[at..]);
+    let Some(n) = a.line else {
         return r;
     };
     let end = at + n;
     out[end] = b'\n';
     Run {
-        state: state,
+        state: a.state,
         n: 0,
         at: end + 1,
     }
@@ -33,6 +29,5 @@ pub fn end_line(r: Run, line: &[u8], store: &mut [u8], buffer: &mut [u8], out: &
     requires room { r.at + longest ≤ length out.old }
     ensures { Ends r line.now store.old buffer.old out.old result store.new buffer.new out.new }
 {
-    let n = r.n;
-    reply(&line[0..n], r, store, buffer, out)
+    reply(&line[..r.n], r, store, buffer, out)
 }

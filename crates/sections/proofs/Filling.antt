@@ -13,32 +13,31 @@ use lib.Seq.{drop_at, get_or-set_same, get_or-set_other}
 use borrow.Rule.Slice.PartMut.{put_mid, mid_of}
 use Rattle.format.specs.Lists.{All, prints}
 use Rattle.format.specs.Runs.{run}
-use Rattle.format.specs.Write.{Writes, Room, writes, writes_as, told_length, same_long}
-use Rattle.format.specs.declared.Written.{Written}
-use Rattle.format.specs.declared.Written.TheVariants.{Length}
+use Rattle.format.specs.Write.{Writes, Room, writes, writes_as, told_length, same_long, fits_or}
+use Rattle.format.specs.Write.{Written}
 use Rattle.frames.specs.Frames.{Frame, frame, frames_of, held, no_frames}
-use Rattle.frames.specs.Place.{frame_at}
-use Rattle.frames.specs.Tally.{items_of, joined, item_bytes, tally_of, total_at}
-use Rattle.frames.specs.declared.Tallies.{Tallies}
-use Rattle.frames.specs.declared.FrameAt.{FrameAt}
-use Rattle.frames.specs.declared.FrameAt.TheVariants.{Is, No}
-use Rattle.frames.proofs.Placing.{Begins}
-use Rattle.frames.proofs.Walking.{Walked, walk_none, walk_more, walk_stop, walk_done, items_other}
+use Rattle.std.specs.Borrow.{Bor}
+use Rattle.frames.specs.Steps.{frame_steps}
+use Rattle.frames.specs.declared.Frames.{Frames}
+use Rattle.frames.specs.Tally.{items_of, joined, item_bytes, Tallies, tallies_of, tally_at, tally_is, tally_for, tally_of, tallied}
+use Rattle.std.specs.Prelude.{None, Some, Ok, IsOk}
+use Rattle.frames.specs.declared.Items.{Items}
+use Rattle.frames.proofs.Placing.{Begins, begins_below}
+use Rattle.frames.proofs.Walking.{Walked, Step, step_some, step_none, walk_none, walk_more, walk_stop, walk_done, items_other}
 use Rattle.sections.specs.declared.Given.{Given}
-use Rattle.sections.specs.Section.{section_of}
+use Rattle.sections.specs.Section.{section_of, said_of}
 use Rattle.sections.specs.Order.{order_ids, all_among, Away, Once}
 use Rattle.sections.specs.Laid.{Plan, plan_of, room_of, Laid, Headed}
 use Rattle.sections.proofs.Lengths.{section_parts}
 use Rattle.sections.proofs.Copying.{some_of, items_bounded, joined_one}
-use Rattle.frames.proofs.Finding.{frame_begins, begins_below}
-use Rattle.sections.proofs.Behind.{room_long}
-use Rattle.sections.proofs.Listed.{listed_all, section_is}
+use Rattle.sections.proofs.Behind.{room_long, room_ok, written}
+use Rattle.sections.proofs.Listed.{listed_all, section_in}
 use Rattle.sections.proofs.Laying.{Spot, seek, laid_other, laid_all, within_room, within_put, writes_again}
 
 -- ---- the plan of the frames that bytes are
 
 abbrev pub plan_in : List ℕ → Given → Plan
-plan_in s given = plan_of (tally_of (run frame s)).counts (tally_of (run frame s)).totals given
+plan_in s given = plan_of (tallies_of (frames_of s)) given
 
 module _ (s : List ℕ) (given : Given) where
   -- what it says of a section
@@ -47,8 +46,9 @@ module _ (s : List ℕ) (given : Given) where
 
   planned : (i : ℕ) → i < 16 → Planned i
   planned i h =
-      let e = total_at s i h in
-      (e, sym (section_parts i _ (item_bytes i s) ((plan_in s given).total i) e) ∙ section_is s i h refl given refl)
+      let l : tally_at (tallies_of (frames_of s)) i ≡ tally_for (frames_of s) i = tally_is (frames_of s) i h in
+      let e : (plan_in s given).total i ≡ length (item_bytes i s) = ap (λ (x : Items). x.total) l in
+      (e, sym (section_parts i _ (item_bytes i s) ((plan_in s given).total i) e) ∙ section_in s i given (ap (λ (x : Items). said_of given i x.count) l))
 
   planned_long : (order : List ℕ) → All Planned order → room_of (plan_in s given) order ≡ length (prints (section_of given (frames_of s)) order)
   planned_long [] a = refl
@@ -71,12 +71,12 @@ pub record Filling (s order : List ℕ) (given : Given) (n : ℕ) (xs ys places 
   pub walk : Walked s past at
   pub bytes : List ℕ
   pub laid : Laid (plan_in s given) (λ i. joined (items_of i past)) places 0 order bytes
-  pub done : Writes bytes xs ys (Length n)
+  pub done : Writes bytes xs ys (Ok n)
   pub few : length places ≡ 16
   pub others : (i : ℕ) → i < 16 → Away i order → get_or places i 0 ≡ 0
 
 -- what was written, again
-writes_same : {b xs ys : List ℕ} {n : ℕ} → Writes b xs ys (Length n) → Writes b ys ys (Length n)
+writes_same : {b xs ys : List ℕ} {n : ℕ} → Writes b xs ys (Ok n) → Writes b ys ys (Ok n)
 writes_same {b} {xs} {ys} {n} w =
     let (k, h, e) = told_length w refl in
     let d : drop (length b) ys ≡ drop (length b) xs = ap (drop (length b)) e ∙ drop_at b (drop (length b) xs) (length b) refl in
@@ -155,7 +155,7 @@ module _ {s order : List ℕ} {given : Given} {n : ℕ} {xs ys places : List ℕ
             items_bounded f.is i walk,
             ap length (joined_one i f.past b.here b.is),
             length-append (joined (items_of i f.past)) item,
-            total_at s i (begins_below b),
+            (planned s given i (begins_below b)).0,
             ap (λ (o : Option (List Frame)). length (joined (items_of i (held o)))) f.is,
           )
 
@@ -181,51 +181,71 @@ module _ {s order : List ℕ} {given : Given} {n : ℕ} {xs ys places : List ℕ
 
 -- ---- the same, of whatever numbers the heads were written over whatever there was: the walk does not know them
 
-pub record Filled (s order : List ℕ) (n : ℕ) (xs start ys places : List ℕ) (at : ℕ) : Type 0 where
-  pub fills : (given : Given) (zs : List ℕ) → Headed (plan_in s given) order zs xs start n → Filling s order given n xs ys places at
+pub record Filled (s order : List ℕ) (n : ℕ) (xs start ys places : List ℕ) (f : Frames) : Type 0 where
+  pub bytes : f.bytes.now ≡ s
+  pub fills : (given : Given) (zs : List ℕ) → Headed (plan_in s given) order zs xs start n → Filling s order given n xs ys places f.at
 
 -- what the writing of the heads asks
-pub heads_room : (s : List ℕ) (t : Tallies) (given : Given) (order xs : List ℕ) → t ≡ tally_of (run frame s) → all_among order_ids order ≡ true
-    → length (prints (section_of given (frames_of s)) order) ≤ length xs → room_of (plan_of t.counts t.totals given) order ≤ length xs
-heads_room s t given order xs e a h = omega (arith, ap (λ (t : Tallies). room_of (plan_of t.counts t.totals given) order) e, plan_long s given order a)
+pub heads_room : (s : List ℕ) (t : Tallies) (given : Given) (order xs : List ℕ) → Some t ≡ tally_of (run frame s) → all_among order_ids order ≡ true
+    → length (prints (section_of given (frames_of s)) order) ≤ length xs → room_of (plan_of t given) order ≤ length xs
+heads_room s t given order xs e a h = omega (arith, ap (λ (t : Tallies). room_of (plan_of t given) order) (tallied s e), plan_long s given order a)
 
-pub filled_none : {s order : List ℕ} {n : ℕ} {xs start : List ℕ} → no_frames (run frame s) ≡ false → Once order → Filled s order n xs start xs start 0
-filled_none e o = record { fills = λ given zs h. filling_none e o h }
+pub filled_none : {s order : List ℕ} {n : ℕ} {xs start : List ℕ} → no_frames (run frame s) ≡ false → Once order → {f : Frames} → (f.bytes.now ≡ s) × (f.at ≡ 0)
+    → Filled s order n xs start xs start f
+filled_none e o (p, z) = record { bytes = p; fills = λ given zs h. rw z (filling_none e o h) }
 
-module _ {s order : List ℕ} {n : ℕ} {xs start ys places : List ℕ} {at : ℕ} (f : Filled s order n xs start ys places at) where
+module _ {s order : List ℕ} {n : ℕ} {xs start ys places : List ℕ} {f : Frames} (filled : Filled s order n xs start ys places f) where
   -- a frame is found
-  module _ (l : at < length s) {i end : ℕ} {r : FrameAt} (e : r ≡ Is i end) (d : r ≡ frame_at s at) where
-    pub filled_other : get_or places i 0 ≤ 0 → Filled s order n xs start ys places end
-    filled_other z = record { fills = λ given zs h. filling_other (f.fills given zs h) l (frame_begins e s at d) z }
+  module _ (i : ℕ) (item : Bor (List ℕ)) (g : Frames) (step : frame_steps f (Some (i, item)) g) where
+    one : Step s f (i, item) g
+    one = step_some filled.bytes (i, item) step
 
-    pub filled_item : {w : Written} {zs : List ℕ} → 0 < get_or places i 0
-        → Writes (take (end - (at + 5)) (drop (at + 5) s)) (mid_of (get_or places i 0) (length ys - get_or places i 0) ys) zs w
-        → Filled s order n xs start (put_mid (get_or places i 0) (length ys - get_or places i 0) ys zs) (set places i (get_or places i 0 + (end - (at + 5)))) end
-    filled_item p w = record { fills = λ given zs h. filling_item (f.fills given zs h) l (frame_begins e s at d) p w }
+    before : f.at < length s
+    before = omega (arith, one.found.long, one.found.within)
 
-  module _ (t : Tallies) (same : t ≡ tally_of (run frame s)) (given : Given) {zs : List ℕ} (h : Headed (plan_of t.counts t.totals given) order zs xs start n) where
+    pub filled_other : get_or places i 0 ≤ 0 → Filled s order n xs start ys places g
+    filled_other z = record { bytes = one.bytes; fills = λ given zs h. filling_other (filled.fills given zs h) before one.found z }
+
+    pub filled_item : {w : Written} {zs : List ℕ} → 0 < get_or places i 0 → Writes item.now (mid_of (get_or places i 0) (length ys - get_or places i 0) ys) zs w
+        → {k : ℕ} → w ≡ Ok k
+        → Filled s order n xs start (put_mid (get_or places i 0) (length ys - get_or places i 0) ys zs) (set places i (get_or places i 0 + k)) g
+    filled_item {zs = zs} p w {k} told =
+        let v = writes_as one.item w in
+        let z : k ≡ g.at - (f.at + 5) = omega (arith, (told_length (written v told) refl).0, one.found.long) in
+        rw z (record { bytes = one.bytes; fills = λ given zs h. filling_item (filled.fills given zs h) before one.found p (writes_as one.found.item v) })
+
+  module _ (t : Tallies) (same : Some t ≡ tally_of (run frame s)) (given : Given) {zs : List ℕ} (h : Headed (plan_of t given) order zs xs start n) where
     heads : Headed (plan_in s given) order zs xs start n
-    heads = subst (λ (t : Tallies). Headed (plan_of t.counts t.totals given) order zs xs start n) same h
+    heads = subst (λ (t : Tallies). Headed (plan_of t given) order zs xs start n) (tallied s same) h
 
-    filling : Filling s order given n xs ys places at
-    filling = f.fills given zs heads
+    filling : Filling s order given n xs ys places f.at
+    filling = filled.fills given zs heads
 
     pub filled_long : length ys ≡ length zs
     filled_long = same_long filling.done ∙ same_long heads.done
 
-    pub filled_stops : at < length s → {r : FrameAt} → r ≡ No → r ≡ frame_at s at → ⊥
-    filled_stops l e d = none-ne-some filling.all (sym (walk_stop filling.walk l (sym e ∙ d)) ∙ filling.is)
+    module _ (i : ℕ) (item : Bor (List ℕ)) (g : Frames) (step : frame_steps f (Some (i, item)) g) (p : 0 < get_or places i 0) where
+      left : Room (one i item g step).found.here.item ys (get_or places i 0)
+      left = filling_room filling (before i item g step) (one i item g step).found p
 
-    module _ (l : at < length s) {i end : ℕ} {r : FrameAt} (e : r ≡ Is i end) (d : r ≡ frame_at s at) (p : 0 < get_or places i 0) where
       pub filled_starts : get_or places i 0 ≤ length ys
-      filled_starts = (filling_room filling l (frame_begins e s at d) p).start
+      filled_starts = left.start
 
-      pub filled_fits : length zs < 2 ^ 64 → Fits w64 (get_or places i 0 + (end - (at + 5)))
-      filled_fits m = let b = frame_begins e s at d in record { fits = omega (arith, room_long (filling_room filling l b p), filled_long, b.long) }
+      module _ {w : Written} {us : List ℕ} (v : Writes item.now (mid_of (get_or places i 0) (length ys - get_or places i 0) ys) us w) where
+        put : Writes (one i item g step).found.here.item (mid_of (get_or places i 0) (length ys - get_or places i 0) ys) us w
+        put = writes_as (one i item g step).item v
 
-    pub filled_done : length s ≤ at → all_among order_ids order ≡ true → Writes (prints (section_of given (frames_of s)) order) zs ys (Length n)
-    filled_done l a =
+        pub filled_room : IsOk w
+        filled_room = room_ok put left.room
+
+        pub filled_fits : {k : ℕ} → w ≡ Ok k → length zs < 2 ^ 64 → Fits w64 (get_or places i 0 + k)
+        filled_fits told m = record { fits = omega (arith, room_long left, filled_long, (told_length (written put told) refl).0) }
+
+    -- and no more
+    pub filled_done : {g : Frames} → frame_steps f None g → all_among order_ids order ≡ true → Writes (prints (section_of given (frames_of s)) order) zs ys (Ok n)
+    filled_done step a =
         let p = plan_in s given in
+        let l : length s ≤ f.at = ⊎_elim (λ k. k) (λ k. absurd (none-ne-some filling.all (sym (walk_stop filling.walk k (step_none filled.bytes step).0) ∙ filling.is))) (fits_or (length s) f.at) in
         let all : filling.past ≡ frames_of s = sym (ap held (walk_done filling.walk l)) in
         let laid = subst (λ (fs : List Frame). Laid p (λ i. joined (items_of i fs)) places 0 order filling.bytes) all filling.laid in
         writes_as (laid_all (section_of given (frames_of s)) laid (listed_all (Planned s given) (planned s given) order a)) (writes_again heads.done filling.done)

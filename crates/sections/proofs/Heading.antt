@@ -7,10 +7,11 @@ use native.Mathlib.Omega.{arith}
 use mir.Syntax.{w64}
 use mir.Val.{Fits}
 use lib.ListN.{length, take, drop, get_or, set, length-append, length-drop, length-set, take-append-drop}
-use lib.Seq.{take_all, length-take-le, drop_at, drop-drop, get_or-set_same, get_or-set_other}
+use lib.Seq.{length-take-le, drop_at, drop-drop, get_or-set_same, get_or-set_other}
 use borrow.Rule.Slice.PartMut.{put_mid, mid_of}
 use Rattle.format.specs.Write.{Writes, Room, writes, writes_as, writes_then, room_then, told_length, same_long, within}
-use Rattle.format.specs.declared.Written.TheVariants.{Length}
+use Rattle.std.specs.Prelude.{Ok}
+use Rattle.frames.specs.Tally.{Tallies, tally_at}
 use Rattle.sections.specs.declared.Given.{Given}
 use Rattle.sections.specs.Section.{head_of, said_of}
 use Rattle.sections.specs.Order.{order_ids, all_among, Away, Once}
@@ -25,7 +26,7 @@ room_more p (i ∷ order) zero h = omega arith
 room_more p (i ∷ order) (suc k) h = omega (arith, room_more p order k (omega arith))
 
 -- what was written, and k bytes that stand behind it
-writes_more : {a xs ys : List ℕ} {n : ℕ} → Writes a xs ys (Length n) → (k : ℕ) → n + k ≤ length xs → Writes (a ++ take k (drop n ys)) xs ys (Length (n + k))
+writes_more : {a xs ys : List ℕ} {n : ℕ} → Writes a xs ys (Ok n) → (k : ℕ) → n + k ≤ length xs → Writes (a ++ take k (drop n ys)) xs ys (Ok (n + k))
 writes_more {a} {xs} {ys} {n} w k h =
     let (e, l, m) = told_length w refl in
     let t = drop (length a) xs in
@@ -42,11 +43,11 @@ module _ {p : Plan} {order xs ys places : List ℕ} {n : ℕ} (h : Headed p orde
   headed_room : Room (p.head i) ys n
   headed_room = room_then (p.head i) h.done (omega (arith, laid_long h.laid, length-append h.bytes (p.head i)))
 
-  module _ (below : i < 16) (away : Away i order) {zs : List ℕ} {m : ℕ} (w : Writes (p.head i) (mid_of n (length ys - n) ys) zs (Length m)) where
+  module _ (below : i < 16) (away : Away i order) {zs : List ℕ} {m : ℕ} (w : Writes (p.head i) (mid_of n (length ys - n) ys) zs (Ok m)) where
     abbrev out : List ℕ
     out = put_mid n (length ys - n) ys zs
 
-    headed : Writes (h.bytes ++ p.head i) xs out (Length (n + m))
+    headed : Writes (h.bytes ++ p.head i) xs out (Ok (n + m))
     headed = writes_then h.done w
 
     abbrev gap : List ℕ
@@ -72,37 +73,34 @@ module _ {p : Plan} {order xs ys places : List ℕ} {n : ℕ} (h : Headed p orde
 
 -- ---- those of the first k sections of an order list
 
-pub record Heading (order : List ℕ) (given : Given) (counts totals xs ys places : List ℕ) (n k : ℕ) : Type 0 where
-  pub put : Headed (plan_of counts totals given) (take k order) xs ys places n
+pub record Heading (order : List ℕ) (given : Given) (t : Tallies) (xs ys places : List ℕ) (n k : ℕ) : Type 0 where
+  pub put : Headed (plan_of t given) (take k order) xs ys places n
 
-pub heading_none : {order : List ℕ} {given : Given} {counts totals xs : List ℕ} → Heading order given counts totals xs xs zeros 0 0
+pub heading_none : {order : List ℕ} {given : Given} {t : Tallies} {xs : List ℕ} → Heading order given t xs xs zeros 0 0
 heading_none = record { put = record { bytes = []; laid = laid_none; done = writes (omega arith) refl refl; few = refl; others = λ i h a. zeros_at i h } }
 
-module _ {order : List ℕ} {given : Given} {counts totals xs ys places : List ℕ} {n k : ℕ} (h : Heading order given counts totals xs ys places n k) where
+module _ {order : List ℕ} {given : Given} {t : Tallies} {xs ys places : List ℕ} {n k : ℕ} (h : Heading order given t xs ys places n k) where
   -- c is the count that the next section says
-  module _ (l : k < length order) (c : ℕ) (d : c ≡ said_of given (get_or order k 0) (get_or counts (get_or order k 0) 0)) (r : room_of (plan_of counts totals given) order ≤ length xs) where
+  module _ (l : k < length order) (c : ℕ) (d : c ≡ said_of given (get_or order k 0) ((tally_at t (get_or order k 0)).count)) (r : room_of (plan_of t given) order ≤ length xs) where
     abbrev i : ℕ
     i = get_or order k 0
 
     abbrev next : List ℕ
-    next = head_of i c (get_or totals i 0)
+    next = head_of i c ((tally_at t i).total)
 
-    same : next ≡ (plan_of counts totals given).head i
-    same = ap (λ (n : ℕ). head_of i n (get_or totals i 0)) d
+    same : next ≡ (plan_of t given).head i
+    same = ap (λ (n : ℕ). head_of i n ((tally_at t i).total)) d
 
-    fits : room_of (plan_of counts totals given) (take k order) + (length ((plan_of counts totals given).head i) + get_or totals i 0) ≤ length xs
-    fits = omega (arith, room_more (plan_of counts totals given) order k l)
+    fits : room_of (plan_of t given) (take k order) + (length ((plan_of t given).head i) + (tally_at t i).total) ≤ length xs
+    fits = omega (arith, room_more (plan_of t given) order k l)
 
     pub heading_room : length next ≤ length (mid_of n (length ys - n) ys)
     heading_room = omega (arith, ap length same, (headed_room h.put i fits).room)
 
-    module _ (a : all_among order_ids order ≡ true) (o : Once order) {zs : List ℕ} {m : ℕ} (w : Writes next (mid_of n (length ys - n) ys) zs (Length m)) where
-      pub heading_more : Heading order given counts totals xs (put_mid n (length ys - n) ys zs) (set places i (n + m)) (n + m + get_or totals i 0) (k + 1)
+    module _ (a : all_among order_ids order ≡ true) (o : Once order) {zs : List ℕ} {m : ℕ} (w : Writes next (mid_of n (length ys - n) ys) zs (Ok m)) where
+      pub heading_more : Heading order given t xs (put_mid n (length ys - n) ys zs) (set places i (n + m)) (n + m + (tally_at t i).total) (k + 1)
       heading_more =
           record { put = headed_as (sym (take_more order k l)) (headed_more h.put i fits (next_below order k a l) (once_at order k o l) (writes_as same w)) }
 
-      pub heading_fits : length xs < 2 ^ 64 → Fits w64 (n + m + get_or totals i 0)
+      pub heading_fits : length xs < 2 ^ 64 → Fits w64 (n + m + (tally_at t i).total)
       heading_fits b = record { fits = omega (arith, within heading_more.put.done) }
-
-  pub heading_all : length order ≤ k → Headed (plan_of counts totals given) order xs ys places n
-  heading_all l = headed_as (take_all k order l) h.put

@@ -12,8 +12,8 @@ use borrow.Author.Tests.{eqb-true, eqb-false}
 use borrow.Rule.Slice.PartMut.{put_mid, mid_of}
 use Rattle.format.specs.Lists.{All, prints}
 use Rattle.format.specs.Write.{Writes, Room, writes, told_length, todo, todo_end, todo_part, rest_lent}
-use Rattle.format.specs.declared.Written.{Written}
-use Rattle.format.specs.declared.Written.TheVariants.{Length}
+use Rattle.format.specs.Write.{Written}
+use Rattle.std.specs.Prelude.{Ok}
 use Rattle.sections.specs.Order.{Away, Once}
 use Rattle.sections.specs.Laid.{Plan, room_of, Laid, laid_none, laid_more}
 use Rattle.sections.proofs.Copying.{no_bytes}
@@ -119,7 +119,7 @@ module _ (p : Plan) (i : ℕ) (got got' : ℕ → List ℕ) (places places' : Li
 -- ---- writing into what was written
 
 -- a place within it
-pub within_room : {b xs ys : List ℕ} {n : ℕ} → Writes b xs ys (Length n) → (front gap rest : List ℕ) → b ≡ front ++ (gap ++ rest)
+pub within_room : {b xs ys : List ℕ} {n : ℕ} → Writes b xs ys (Ok n) → (front gap rest : List ℕ) → b ≡ front ++ (gap ++ rest)
     → {to : ℕ} → to ≡ length front → (c : List ℕ) → length c ≤ length gap → Room c ys to
 within_room {b} {xs} {ys} {n} w front gap rest e {to} q c h =
     let (k, l, m) = told_length w refl in
@@ -127,9 +127,9 @@ within_room {b} {xs} {ys} {n} w front gap rest e {to} q c h =
     let u : length ys ≡ length b + (length xs - length b) = ap length m ∙ simp (length-append, length-drop) in
     record { start = omega arith; room = omega (arith, ap length (rest_lent to ys), length-drop to ys) }
 
-pub within_put : {b xs ys : List ℕ} {n : ℕ} → Writes b xs ys (Length n) → (front gap rest : List ℕ) → b ≡ front ++ (gap ++ rest)
+pub within_put : {b xs ys : List ℕ} {n : ℕ} → Writes b xs ys (Ok n) → (front gap rest : List ℕ) → b ≡ front ++ (gap ++ rest)
     → {to : ℕ} → to ≡ length front → (c : List ℕ) → length c ≤ length gap → {r : Written} {zs : List ℕ} → Writes c (mid_of to (length ys - to) ys) zs r
-    → Writes (front ++ (c ++ (drop (length c) gap ++ rest))) xs (put_mid to (length ys - to) ys zs) (Length n)
+    → Writes (front ++ (c ++ (drop (length c) gap ++ rest))) xs (put_mid to (length ys - to) ys zs) (Ok n)
 within_put {b} {xs} {ys} {n} w front gap rest e {to} q c h {r} {zs} v =
     let (k, l, m) = told_length w refl in
     let b' = front ++ (c ++ (drop (length c) gap ++ rest)) in
@@ -147,7 +147,7 @@ within_put {b} {xs} {ys} {n} w front gap rest e {to} q c h {r} {zs} v =
     (placed ∙ ap₂ (λ (x y : List ℕ). x ++ (c ++ y)) before behind ∙ ap (λ (a : ℕ). front ++ (c ++ (drop (length c) gap ++ (rest ++ drop a xs)))) (sym long') ∙ simp append_assoc)
 
 -- over what was written over
-pub writes_again : {a b xs ys zs : List ℕ} {n : ℕ} → Writes a xs ys (Length n) → Writes b ys zs (Length n) → Writes b xs zs (Length n)
+pub writes_again : {a b xs ys zs : List ℕ} {n : ℕ} → Writes a xs ys (Ok n) → Writes b ys zs (Ok n) → Writes b xs zs (Ok n)
 writes_again {a} {b} {xs} {ys} {zs} {n} w v =
     let (k, l, m) = told_length w refl in
     let (k', l', m') = told_length v refl in

@@ -9,19 +9,18 @@ use mir.Syntax.{w64}
 use mir.Val.{Fits}
 use lib.Dec.{eqb}
 use lib.ListN.{length, take, drop, get_or, length-append, take-append-drop}
-use lib.Seq.{take-suc, take_all}
+use lib.Seq.{take-suc}
 use borrow.Author.Tests.{eqb-true}
 use borrow.Rule.Slice.PartMut.{put_mid, mid_of}
 use Rattle.format.specs.Lists.{All, prints, prints_append, prints_more}
 use Rattle.format.specs.Runs.{run}
 use Rattle.format.specs.Write.{Writes, writes, writes_as, writes_then, room_then}
-use Rattle.format.specs.declared.Written.TheVariants.{Length}
+use Rattle.std.specs.Prelude.{Ok, Some}
 use Rattle.leb128.specs.Leb.{uleb}
 use Rattle.frames.specs.Frames.{frame, frames_of, frames_ok}
 use Rattle.frames.specs.Ids.{sections, among, among_each}
 use Rattle.frames.specs.Builder.{store_most}
-use Rattle.frames.specs.Tally.{items_of, item_bytes, tally_of, no_items, items_within, count_at, total_at}
-use Rattle.frames.specs.declared.Tallies.{Tallies}
+use Rattle.frames.specs.Tally.{items_of, item_bytes, tally_of, no_items, items_within, Tallies, tally_at, count_at, total_at}
 use Rattle.sections.specs.declared.Given.{Given}
 use Rattle.sections.specs.Section.{section, section_of, said_of, data_count}
 use Rattle.sections.specs.Order.{order_most, order_ids, all_among}
@@ -46,12 +45,6 @@ module _ (order : List ℕ) (j : ℕ) (e : all_among order_ids order ≡ true) (
   pub next_below : get_or order j 0 < 16
   next_below = listed_below (get_or order j 0) (listed order j e h)
 
-  pub next_fits : Fits w64 (get_or order j 0)
-  next_fits = let b = next_below in record { fits = omega arith }
-
-  pub next_scaled : Fits w64 (get_or order j 0 * 8)
-  next_scaled = let b = next_below in record { fits = omega arith }
-
 -- so what holds of ids below 16 holds of each
 pub listed_all : (P : ℕ → Type 0) → ((i : ℕ) → i < 16 → P i) → (order : List ℕ) → all_among order_ids order ≡ true → All P order
 listed_all P f [] e = tt
@@ -72,23 +65,19 @@ section_said given s i = go (eqb i data_count) refl
         rw (e, z, append-nil)
     go false e = rw e
 
+pub section_in : (s : List ℕ) (i : ℕ) (given : Given) {c : ℕ} → c ≡ said given s i → section i (uleb c ++ item_bytes i s) ≡ section_of given (frames_of s) i
+section_in s i given w = ap (λ (x : ℕ). section i (uleb x ++ item_bytes i s)) w ∙ sym (section_said given s i)
+
 -- and how a tally tells it
-module _ (s : List ℕ) (i : ℕ) (h : i < 16) where
-  total-is : {totals : List ℕ} → totals ≡ (tally_of (run frame s)).totals → get_or totals i 0 ≡ length (item_bytes i s)
-  total-is e = ap (λ (l : List ℕ). get_or l i 0) e ∙ total_at s i h
+module _ (s : List ℕ) (t : Tallies) (e : Some t ≡ tally_of (run frame s)) (i : ℕ) (h : i < 16) where
+  pub total_told : (tally_at t i).total ≡ length (item_bytes i s)
+  total_told = total_at s e i h
 
-  pub section_is : {counts : List ℕ} → counts ≡ (tally_of (run frame s)).counts → (given : Given) {c : ℕ} → c ≡ said_of given i (get_or counts i 0)
-      → section i (uleb c ++ item_bytes i s) ≡ section_of given (frames_of s) i
-  section_is e given {c} d =
-      let w : c ≡ said given s i = d ∙ ap (said_of given i) (ap (λ (l : List ℕ). get_or l i 0) e ∙ count_at s i h) in
-      ap (λ (x : ℕ). section i (uleb x ++ item_bytes i s)) w ∙ sym (section_said given s i)
-
-module _ (s : List ℕ) (t : Tallies) (e : t ≡ tally_of (run frame s)) (i : ℕ) (h : i < 16) where
-  pub total_told : get_or t.totals i 0 ≡ length (item_bytes i s)
-  total_told = total-is s i h (ap (λ (t : Tallies). t.totals) e)
-
-  pub total_few : length s ≤ store_most → get_or t.totals i 0 ≤ store_most
+  pub total_few : length s ≤ store_most → (tally_at t i).total ≤ store_most
   total_few l = omega (arith, total_told, items_within i s)
+
+  pub section_is : (given : Given) {c : ℕ} → c ≡ said_of given i (tally_at t i).count → section i (uleb c ++ item_bytes i s) ≡ section_of given (frames_of s) i
+  section_is given d = section_in s i given (d ∙ ap (said_of given i) (count_at s e i h))
 
 -- ---- one section more
 
@@ -105,74 +94,58 @@ module _ (f : ℕ → List ℕ) (order : List ℕ) (j : ℕ) (h : j < length ord
 -- ---- their length
 
 -- the first j of them have n bytes
-pub record Measured (order : List ℕ) (given : Given) (counts totals : List ℕ) (n j : ℕ) : Type 0 where
-  pub sum : (s : List ℕ) → counts ≡ (tally_of (run frame s)).counts → totals ≡ (tally_of (run frame s)).totals
-      → n ≡ length (prints (section_of given (frames_of s)) (take j order))
+pub record Measured (order : List ℕ) (given : Given) (t : Tallies) (n j : ℕ) : Type 0 where
+  pub sum : (s : List ℕ) → Some t ≡ tally_of (run frame s) → n ≡ length (prints (section_of given (frames_of s)) (take j order))
   pub few : n ≤ j * (store_most + 21)
   pub within : j ≤ length order
 
-pub measured_none : {order : List ℕ} {given : Given} {counts totals : List ℕ} → Measured order given counts totals 0 0
-measured_none = record { sum = λ s p q. refl; few = omega arith; within = omega arith }
-
 -- the next one is not long
-pub next_few : (order : List ℕ) (j : ℕ) (totals : List ℕ) → ((i : ℕ) → i < 16 → get_or totals i 0 ≤ store_most) → all_among order_ids order ≡ true → j < length order
-    → get_or totals (get_or order j 0) 0 ≤ store_most
-next_few order j totals f a h = f (get_or order j 0) (next_below order j a h)
+pub next_few : (order : List ℕ) (j : ℕ) (t : Tallies) → ((i : ℕ) → i < 16 → (tally_at t i).total ≤ store_most) → all_among order_ids order ≡ true → j < length order
+    → (tally_at t (get_or order j 0)).total ≤ store_most
+next_few order j t f a h = f (get_or order j 0) (next_below order j a h)
 
-module _ {order : List ℕ} {given : Given} {counts totals : List ℕ} {n j : ℕ} (m : Measured order given counts totals n j) where
+module _ {order : List ℕ} {given : Given} {t : Tallies} {n j : ℕ} (m : Measured order given t n j) where
   -- r is its length
-  module _ (h : j < length order) (a : all_among order_ids order ≡ true) (f : (i : ℕ) → i < 16 → get_or totals i 0 ≤ store_most) {r : ℕ} (k : r ≤ get_or totals (get_or order j 0) 0 + 21) where
+  module _ (h : j < length order) (a : all_among order_ids order ≡ true) (f : (i : ℕ) → i < 16 → (tally_at t i).total ≤ store_most) {r : ℕ} (k : r ≤ (tally_at t (get_or order j 0)).total + 21) where
     pub measured_fits : length order ≤ order_most → Fits w64 (n + r)
-    measured_fits l = record { fits = omega (arith, m.few, next_few order j totals f a h) }
+    measured_fits l = record { fits = omega (arith, m.few, next_few order j t f a h) }
 
-    pub measured_more : (c : ℕ) → c ≡ said_of given (get_or order j 0) (get_or counts (get_or order j 0) 0)
-        → ((i : ℕ) (items : List ℕ) → length items ≡ get_or totals (get_or order j 0) 0 → r ≡ length (section i (uleb c ++ items))) → Measured order given counts totals (n + r) (j + 1)
-    measured_more c d l = record { sum = sum; few = omega (arith, m.few, next_few order j totals f a h); within = omega arith }
+    pub measured_more : (c : ℕ) → c ≡ said_of given (get_or order j 0) ((tally_at t (get_or order j 0)).count)
+        → ((i : ℕ) (items : List ℕ) → length items ≡ (tally_at t (get_or order j 0)).total → r ≡ length (section i (uleb c ++ items))) → Measured order given t (n + r) (j + 1)
+    measured_more c d l = record { sum = sum; few = omega (arith, m.few, next_few order j t f a h); within = omega arith }
       where
-        sum : (s : List ℕ) → counts ≡ (tally_of (run frame s)).counts → totals ≡ (tally_of (run frame s)).totals
-            → n + r ≡ length (prints (section_of given (frames_of s)) (take (j + 1) order))
-        sum s p q =
+        sum : (s : List ℕ) → Some t ≡ tally_of (run frame s) → n + r ≡ length (prints (section_of given (frames_of s)) (take (j + 1) order))
+        sum s e =
             let i = get_or order j 0 in
             let b = next_below order j a h in
             let g = section_of given (frames_of s) in
-            let u : r ≡ length (g i) = l i (item_bytes i s) (sym (total-is s i b q)) ∙ ap length (section_is s i b p given d) in
-            omega (arith, m.sum s p q, ap length (more g order j h), length-append (prints g (take j order)) (g i))
-
-  pub measured_few : length order ≤ order_most → n ≤ order_most * (store_most + 21)
-  measured_few h = omega (arith, m.few, m.within)
-
-pub measured_all : {order : List ℕ} {given : Given} (t : Tallies) {n j : ℕ} → Measured order given t.counts t.totals n j → length order ≤ j
-    → (s : List ℕ) → t ≡ tally_of (run frame s) → n ≡ length (prints (section_of given (frames_of s)) order)
-measured_all {order} {given} t {n} {j} m h s e =
-    m.sum s (ap (λ (t : Tallies). t.counts) e) (ap (λ (t : Tallies). t.totals) e) ∙ ap (λ (l : List ℕ). length (prints (section_of given (frames_of s)) l)) (take_all j order h)
+            let u : r ≡ length (g i) = l i (item_bytes i s) (sym (total_told s t e i b)) ∙ ap length (section_is s t e i b given d) in
+            omega (arith, m.sum s e, ap length (more g order j h), length-append (prints g (take j order)) (g i))
 
 -- ---- their writing
 
 -- the first j of them are written, n bytes
 pub record Put (order : List ℕ) (given : Given) (s xs ys : List ℕ) (n j : ℕ) : Type 0 where
-  pub done : Writes (prints (section_of given (frames_of s)) (take j order)) xs ys (Length n)
+  pub done : Writes (prints (section_of given (frames_of s)) (take j order)) xs ys (Ok n)
 
 pub put_none : {order : List ℕ} {given : Given} {s xs : List ℕ} → Put order given s xs xs 0 0
 put_none = record { done = writes (omega arith) refl refl }
 
 module _ {order : List ℕ} {given : Given} {s xs ys : List ℕ} {n j : ℕ} (p : Put order given s xs ys n j) where
   -- c is the count that the next section says
-  module _ (h : j < length order) (a : all_among order_ids order ≡ true) (t : Tallies) (e : t ≡ tally_of (run frame s)) (c : ℕ)
-      (d : c ≡ said_of given (get_or order j 0) (get_or t.counts (get_or order j 0) 0)) where
+  module _ (h : j < length order) (a : all_among order_ids order ≡ true) (t : Tallies) (e : Some t ≡ tally_of (run frame s)) (c : ℕ)
+      (d : c ≡ said_of given (get_or order j 0) ((tally_at t (get_or order j 0)).count)) where
     abbrev i : ℕ
     i = get_or order j 0
 
     next : section i (uleb c ++ item_bytes i s) ≡ section_of given (frames_of s) i
-    next = section_is s i (next_below order j a h) (ap (λ (t : Tallies). t.counts) e) given d
+    next = section_is s t e i (next_below order j a h) given d
 
     pub put_room : length (prints (section_of given (frames_of s)) order) ≤ length xs → length (section i (uleb c ++ item_bytes i s)) ≤ length (mid_of n (length ys - n) ys)
     put_room k =
         let f = section_of given (frames_of s) in
         omega (arith, ap length next, (room_then (f i) p.done (omega (arith, bounded f order j h))).room)
 
-    pub put_more : {zs : List ℕ} {m : ℕ} → Writes (section i (uleb c ++ item_bytes i s)) (mid_of n (length ys - n) ys) zs (Length m)
+    pub put_more : {zs : List ℕ} {m : ℕ} → Writes (section i (uleb c ++ item_bytes i s)) (mid_of n (length ys - n) ys) zs (Ok m)
         → Put order given s xs (put_mid n (length ys - n) ys zs) (n + m) (j + 1)
     put_more w = record { done = writes_as (sym (more (section_of given (frames_of s)) order j h)) (writes_then p.done (writes_as next w)) }
-
-  pub put_all : length order ≤ j → Writes (prints (section_of given (frames_of s)) order) xs ys (Length n)
-  put_all h = writes_as (ap (prints (section_of given (frames_of s))) (take_all j order h)) p.done

@@ -1,31 +1,21 @@
 -- One section, as the code measures and writes it: a number, the head, and the items behind it. Assumes nothing.
-use mathlib.Core.Path.{◌≡◌, sym, ap, ◌∙◌, subst}
+use mathlib.Core.Path.{◌≡◌, sym, ap, ◌∙◌}
 use mathlib.Core.Bool.{false}
 use mathlib.Core.List.{List, [], ◌∷◌, ◌++◌}
 use Prim.Native.Nat.{ℕ, ◌+◌, ◌-◌, ◌≤◌, ◌<◌, ◌^◌}
 use native.Mathlib.Omega.{arith}
 use mir.Syntax.{w64}
 use mir.Val.{Fits}
-use lib.ListN.{length, set, length-append}
+use lib.ListN.{length, set}
 use borrow.Rule.Slice.PartMut.{put_mid, mid_of}
-use Rattle.format.specs.Write.{Writes, Room, write_one, writes_as, writes_then, room_then, told_short, within, same_long}
-use Rattle.format.specs.declared.Written.{Written}
-use Rattle.format.specs.declared.Written.TheVariants.{Length, Short}
+use Rattle.format.specs.Write.{Writes, Room, write_one, writes_as, writes_then, room_then, within}
+use Rattle.std.specs.Prelude.{Ok}
 use Rattle.leb128.specs.Leb.{uleb}
 use Rattle.leb128.proofs.Writing.{ten}
 use Rattle.frames.specs.Builder.{store_most}
 use Rattle.frames.specs.Tally.{item_bytes}
 use Rattle.sections.specs.Section.{section, head_of}
 use Rattle.sections.proofs.Lengths.{counted_long, section_parts}
-
--- ---- a number: where there is room, it is written
-
-module _ {b xs ys : List ℕ} {r : Written} (w : Writes b xs ys r) where
-  pub number_written : {k : ℕ} → r ≡ Length k → Writes b xs ys (Length k)
-  number_written e = subst (Writes b xs ys) e w
-
-  pub never_short : r ≡ Short → length b ≤ length xs → ⊥
-  never_short e h = omega (arith, (told_short w e).0)
 
 -- ---- its length: k bytes say the count
 
@@ -58,11 +48,8 @@ section_measured {k} count e total d i items q = ap (λ (n : ℕ). 1 + n + (k + 
 
 module _ (id count total : ℕ) (out : List ℕ) (h : length (head_of id count total) ≤ length out) where
   -- the id is written
-  first : Writes (id ∷ []) out (set out 0 id) (Length 1)
+  first : Writes (id ∷ []) out (set out 0 id) (Ok 1)
   first = write_one id out (omega arith)
-
-  pub head_starts : 1 ≤ length (set out 0 id)
-  head_starts = omega (arith, h, same_long first)
 
   module _ (k : ℕ) (e : k ≡ length (uleb count)) where
     abbrev size : List ℕ
@@ -74,15 +61,12 @@ module _ (id count total : ℕ) (out : List ℕ) (h : length (head_of id count t
     room : length ((id ∷ size) ++ uleb count) ≤ length out
     room = omega (arith, ap length parts)
 
-    pub size_room : length size ≤ length (mid_of 1 (length (set out 0 id) - 1) (set out 0 id))
-    size_room = (room_then size first (omega (arith, room, length-append size (uleb count)))).room
-
     -- and the size
-    module _ {zs : List ℕ} {m : ℕ} (w : Writes size (mid_of 1 (length (set out 0 id) - 1) (set out 0 id)) zs (Length m)) where
+    module _ {zs : List ℕ} {m : ℕ} (w : Writes size (mid_of 1 (length (set out 0 id) - 1) (set out 0 id)) zs (Ok m)) where
       abbrev sized : List ℕ
       sized = put_mid 1 (length (set out 0 id) - 1) (set out 0 id) zs
 
-      second : Writes (id ∷ size) out sized (Length (1 + m))
+      second : Writes (id ∷ size) out sized (Ok (1 + m))
       second = writes_then first w
 
       pub size_fits : length out < 2 ^ 64 → Fits w64 (1 + m)
@@ -98,12 +82,9 @@ module _ (id count total : ℕ) (out : List ℕ) (h : length (head_of id count t
       count_room = left.room
 
       -- and the count
-      module _ {ws : List ℕ} {n : ℕ} (v : Writes (uleb count) (mid_of (1 + m) (length sized - (1 + m)) sized) ws (Length n)) where
-        pub head_written : Writes (head_of id count total) out (put_mid (1 + m) (length sized - (1 + m)) sized ws) (Length (1 + m + n))
+      module _ {ws : List ℕ} {n : ℕ} (v : Writes (uleb count) (mid_of (1 + m) (length sized - (1 + m)) sized) ws (Ok n)) where
+        pub head_written : Writes (head_of id count total) out (put_mid (1 + m) (length sized - (1 + m)) sized ws) (Ok (1 + m + n))
         head_written = writes_as parts (writes_then second v)
-
-        pub head_long : length (put_mid (1 + m) (length sized - (1 + m)) sized ws) ≡ length out
-        head_long = same_long head_written
 
         pub head_fits : length out < 2 ^ 64 → Fits w64 (1 + m + n)
         head_fits l = record { fits = omega (arith, within head_written) }
@@ -118,12 +99,9 @@ module _ (id count total : ℕ) (s out : List ℕ) (e : total ≡ length (item_b
     fits : length (head_of id count total ++ item_bytes id s) ≤ length out
     fits = omega (arith, ap length whole)
 
-    pub head_room : length (head_of id count total) ≤ length out
-    head_room = omega (arith, fits, length-append (head_of id count total) (item_bytes id s))
-
-    pub items_room : {ys : List ℕ} {n : ℕ} → Writes (head_of id count total) out ys (Length n) → total ≤ length (mid_of n (length ys - n) ys)
+    pub items_room : {ys : List ℕ} {n : ℕ} → Writes (head_of id count total) out ys (Ok n) → total ≤ length (mid_of n (length ys - n) ys)
     items_room w = omega (arith, (room_then (item_bytes id s) w fits).room)
 
-  pub section_written : {ys : List ℕ} {n : ℕ} → Writes (head_of id count total) out ys (Length n) → {zs : List ℕ} {m : ℕ} → Writes (item_bytes id s) (mid_of n (length ys - n) ys) zs (Length m)
-      → Writes (section id (uleb count ++ item_bytes id s)) out (put_mid n (length ys - n) ys zs) (Length (n + m))
+  pub section_written : {ys : List ℕ} {n : ℕ} → Writes (head_of id count total) out ys (Ok n) → {zs : List ℕ} {m : ℕ} → Writes (item_bytes id s) (mid_of n (length ys - n) ys) zs (Ok m)
+      → Writes (section id (uleb count ++ item_bytes id s)) out (put_mid n (length ys - n) ys zs) (Ok (n + m))
   section_written w v = writes_as (sym whole) (writes_then w v)

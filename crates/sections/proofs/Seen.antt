@@ -1,13 +1,13 @@
 -- How far the look for an id that an order list has twice has come. Assumes nothing.
-use mathlib.Core.Path.{◌≡◌, refl, sym, subst, ◌∙◌, ap}
+use mathlib.Core.Path.{◌≡◌, sym, subst, ◌∙◌, ap}
 use mathlib.Core.Logic.{◌↔◌}
 use mathlib.Core.Bool.{Bool, true, false, true≢false}
 use mathlib.Core.List.{List, [], ◌∷◌, ◌++◌}
-use Prim.Native.Nat.{ℕ, zero, suc, ◌+◌, ◌≤◌, ◌<◌}
+use Prim.Native.Nat.{ℕ, zero, suc, ◌+◌, ◌<◌}
 use native.Mathlib.Numerals.{add-one}
 use native.Mathlib.Omega.{arith}
 use lib.ListN.{length, take, get_or, set, length-set}
-use lib.Seq.{take-suc, take_all, get_or-set_same, get_or-set_other}
+use lib.Seq.{take-suc, get_or-set_same, get_or-set_other}
 use Rattle.format.specs.Lists.{All, all_more}
 use Rattle.frames.specs.Tally.{table, table_at}
 use Rattle.sections.specs.Order.{order_ids, all_among, Away, Once}
@@ -45,44 +45,38 @@ zeros = 0 ∷ 0 ∷ 0 ∷ 0 ∷ 0 ∷ 0 ∷ 0 ∷ 0 ∷ 0 ∷ 0 ∷ 0 ∷ 0 ∷ 
 
 pub zeros_at : (i : ℕ) → i < 16 → get_or zeros i 0 ≡ 0
 unfolding table
-zeros_at i h = table_at 16 (λ j. 0) i h
+zeros_at i h = table_at 16 (λ j. 0) i 0 h
 
 -- ---- the look
 
--- no id is among the first j twice, and 1 is noted for those that are there
-pub record Seen (order seen : List ℕ) (j : ℕ) : Type 0 where
+-- no id is among the first j twice, and those that are there are noted
+pub record Seen (order : List ℕ) (seen : List Bool) (j : ℕ) : Type 0 where
   pub once : Once (take j order)
   pub few : length seen ≡ 16
-  pub others : (i : ℕ) → (get_or seen i 0 ≡ 1 → ⊥) → Away i (take j order)
-  pub noted : (i : ℕ) → i < 16 → get_or seen i 0 ≡ 1 → Away i (take j order) → ⊥
+  pub others : (i : ℕ) → get_or seen i false ≡ false → Away i (take j order)
+  pub noted : (i : ℕ) → i < 16 → get_or seen i false ≡ true → Away i (take j order) → ⊥
 
-pub seen_none : {order : List ℕ} → Seen order zeros 0
-seen_none = record { once = tt; few = refl; others = λ i h. tt; noted = λ i b q a. omega (arith, zeros_at i b) }
-
-module _ {order seen : List ℕ} {j : ℕ} (s : Seen order seen j) where
-  pub seen_more : j < length order → all_among order_ids order ≡ true → (get_or seen (get_or order j 0) 0 ≡ 1 → ⊥) → Seen order (set seen (get_or order j 0) 1) (j + 1)
+module _ {order : List ℕ} {seen : List Bool} {j : ℕ} (s : Seen order seen j) where
+  pub seen_more : j < length order → all_among order_ids order ≡ true → get_or seen (get_or order j 0) false ≡ false → Seen order (set seen (get_or order j 0) true) (j + 1)
   seen_more h a n =
       let i = get_or order j 0 in
       let b = next_below order j a h in
       let f = s.few in
       record {
         once = subst Once (sym (take_more order j h)) (once_more (take j order) i s.once (s.others i n));
-        few = length-set seen i 1 ∙ f;
-        others = λ k m. subst (Away k) (sym (take_more order j h))
-            (all_more (λ e. e ≡ k → ⊥) (take j order) i
-            (s.others k (λ q. m (get_or-set_other seen i k 1 0 (λ e. n (ap (λ (x : ℕ). get_or seen x 0) (sym e) ∙ q)) ∙ q)))
-            (λ e. m (ap (λ (x : ℕ). get_or (set seen i 1) x 0) (sym e) ∙ get_or-set_same seen i 1 0 (omega arith))));
+        few = length-set seen i true ∙ f;
+        others = λ k m.
+            let away : i ≡ k → ⊥ = λ e. true≢false (sym (get_or-set_same seen i true false (omega arith)) ∙ ap (λ (x : ℕ). get_or (set seen i true) x false) e ∙ m) in
+            subst (Away k) (sym (take_more order j h))
+            (all_more (λ e. e ≡ k → ⊥) (take j order) i (s.others k (sym (get_or-set_other seen i k true false (λ e. away (sym e))) ∙ m)) away);
         noted = λ k c q a.
             let (d, e) = all_less (λ e. e ≡ k → ⊥) (take j order) i (subst (Away k) (take_more order j h) a) in
-            s.noted k c (sym (get_or-set_other seen i k 1 0 (λ p. e (sym p))) ∙ q) d;
+            s.noted k c (sym (get_or-set_other seen i k true false (λ p. e (sym p))) ∙ q) d;
       }
 
   -- an id was noted before
-  pub seen_twice : j < length order → all_among order_ids order ≡ true → get_or seen (get_or order j 0) 0 ≡ 1 → (false ≡ true) ↔ Once order
+  pub seen_twice : j < length order → all_among order_ids order ≡ true → get_or seen (get_or order j 0) false ≡ true → (false ≡ true) ↔ Once order
   seen_twice h a q = (λ e. absurd (true≢false (sym e)), λ o. absurd (s.noted (get_or order j 0) (next_below order j a h) q (once_at order j o h)))
-
-  pub seen_all : length order ≤ j → (true ≡ true) ↔ Once order
-  seen_all h = (λ e. subst Once (take_all j order h) s.once, λ o. refl)
 
 -- what the look told
 pub once_told : (order : List ℕ) {r : Bool} → (r ≡ true) ↔ Once order → r ≡ true → Once order

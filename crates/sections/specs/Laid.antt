@@ -1,8 +1,8 @@
 -- Sections laid out one behind the other, while their items are still to come: a walk over the frames finds the items of all sections in the order of adding,
 -- and writes each where its section has room for it. Assumes nothing.
-use Rattle.std.specs.Prelude.{◌≡◌, List, [], ◌∷◌, ◌++◌, ℕ, ◌+◌, ◌<◌, length, get_or}
+use Rattle.std.specs.Prelude.{◌≡◌, Ok, List, [], ◌∷◌, ◌++◌, ℕ, ◌+◌, ◌<◌, length, get_or}
 use Rattle.format.specs.Write.{Writes}
-use Rattle.format.specs.declared.Written.TheVariants.{Length}
+use Rattle.frames.specs.Tally.{Tallies, tally_at}
 use Rattle.sections.specs.Section.{head_of, said_of}
 use Rattle.sections.specs.Order.{Away}
 use Rattle.sections.specs.declared.Given.{Given}
@@ -13,9 +13,8 @@ pub record Plan : Type 0 where
   pub total : ℕ → ℕ
 
 -- as a tally has them
-abbrev pub plan_of : List ℕ → List ℕ → Given → Plan
-plan_of counts totals given =
-    record { head = λ i. head_of i (said_of given i (get_or counts i 0)) (get_or totals i 0); total = λ i. get_or totals i 0 }
+abbrev pub plan_of : Tallies → Given → Plan
+plan_of t given = record { head = λ i. head_of i (said_of given i (tally_at t i).count) (tally_at t i).total; total = λ i. (tally_at t i).total }
 
 -- how many bytes the sections of an order list have
 abbrev pub room_of : Plan → List ℕ → ℕ
@@ -34,6 +33,6 @@ pub data Laid (p : Plan) (got : ℕ → List ℕ) (places : List ℕ) : ℕ → 
 pub record Headed (p : Plan) (order xs ys places : List ℕ) (n : ℕ) : Type 0 where
   pub bytes : List ℕ
   pub laid : Laid p (λ i. []) places 0 order bytes
-  pub done : Writes bytes xs ys (Length n)
+  pub done : Writes bytes xs ys (Ok n)
   pub few : length places ≡ 16
   pub others : (i : ℕ) → i < 16 → Away i order → get_or places i 0 ≡ 0

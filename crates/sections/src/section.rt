@@ -1,8 +1,7 @@
 // One section: its length, and its bytes where there is room for them.
-ghost use Rattle.std.specs.Prelude.{◌≡◌, false, List, ◌++◌, ℕ, ◌+◌, ◌≤◌, length};
+ghost use Rattle.std.specs.Prelude.{◌≡◌, Ok, false, List, ◌++◌, ℕ, ◌+◌, ◌≤◌, length};
 ghost use Rattle.format.specs.Runs.{run};
 ghost use Rattle.format.specs.Write.{Writes};
-ghost use Rattle.format.specs.declared.Written.TheVariants.{Length};
 ghost use Rattle.leb128.specs.Leb.{uleb};
 ghost use Rattle.frames.specs.Frames.{frame, no_frames};
 ghost use Rattle.frames.specs.Builder.{store_most};
@@ -10,8 +9,8 @@ ghost use Rattle.frames.specs.Tally.{item_bytes};
 ghost use Rattle.sections.specs.Section.{section, head_of, said_of};
 
 use crate::Given;
-use format::Written;
-use frames::FrameAt;
+use frames::Frames;
+use leb128::Parts;
 
 // The count that a section says: how many items it has or, of the section that has none, the data count.
 pub fn count_of(id: u8, items: usize, given: Given) -> usize
@@ -36,19 +35,20 @@ pub fn section_len(count: usize, total: usize) -> usize
 // From here on there is room for what is written.
 fn put_number(n: usize, out: &mut [u8]) -> usize
     requires { length (uleb n) ≤ length out.old }
-    ensures { Writes (uleb n) out.old out.new (Length result) }
+    ensures { Writes (uleb n) out.old out.new (Ok result) }
 {
-    match leb128::encode(false, false, n as u64, out) {
-        Written::Length(k) => k,
-        Written::Short => 0,
-    }
+    let parts = Parts {
+        neg: false,
+        magnitude: n as u64,
+    };
+    leb128::encode(false, parts, out).unwrap()
 }
 
 // What stands before the items of a section.
 pub fn put_head(id: u8, count: usize, total: usize, out: &mut [u8]) -> usize
     requires total_within { total ≤ store_most }
     requires room { length (head_of id count total) ≤ length out.old }
-    ensures { Writes (head_of id count total) out.old out.new (Length result) }
+    ensures { Writes (head_of id count total) out.old out.new (Ok result) }
 {
     out[0] = id;
     let a = 1 + put_number(leb128::size(false, count as u64) + total, &mut out[1..]);
@@ -60,20 +60,18 @@ fn put_items(frames: &[u8], id: u8, total: usize, out: &mut [u8]) -> usize
     requires framed { no_frames (run frame frames.now) ≡ false }
     requires totalled { total ≡ length (item_bytes id frames.now) }
     requires room { total ≤ length out.old }
-    ensures { Writes (item_bytes id frames.now) out.old out.new (Length result) }
+    ensures { Writes (item_bytes id frames.now) out.old out.new (Ok result) }
 {
-    let mut n: usize = 0;
-    let mut at: usize = 0;
+    let mut walk = Frames::new(frames);
+    let mut n = 0;
+    // The walk ends with the last item of the section, and goes over none behind it.
     while n < total {
-        let FrameAt::Is(i, end) = frames::frame_at(frames, at) else {
-            return n;
-        };
-        let from = at + 5;
+        let (i, item) = walk.next().unwrap();
         if i == id {
-            format::copy(&frames[from..end], &mut out[n..]);
-            n += end - from;
+            // There is room, and reading the answer takes a third longer.
+            let _ = format::copy(item, &mut out[n..]);
+            n += item.len();
         }
-        at = end;
     }
     n
 }
@@ -83,7 +81,7 @@ pub fn put_section(frames: &[u8], id: u8, count: usize, total: usize, out: &mut 
     requires framed { no_frames (run frame frames.now) ≡ false }
     requires totalled { (total ≡ length (item_bytes id frames.now)) × (total ≤ store_most) }
     requires room { length (section id (uleb count ++ item_bytes id frames.now)) ≤ length out.old }
-    ensures { Writes (section id (uleb count ++ item_bytes id frames.now)) out.old out.new (Length result) }
+    ensures { Writes (section id (uleb count ++ item_bytes id frames.now)) out.old out.new (Ok result) }
 {
     let n = put_head(id, count, total, out);
     n + put_items(frames, id, total, &mut out[n..])

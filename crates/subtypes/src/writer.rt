@@ -11,23 +11,15 @@ use prefixes::{walk_option, walk_shared, walk_supers};
 fn walk_described(words: &[u32], at: usize, out: &mut [u8], s: Done) -> Walk
     ensures { Walks described_words described_bytes.print silent words.now at out.old s out.new result }
 {
-    let Walk::Got(p, t) = walk_option(0x4C, words, at, out, s) else {
-        return Walk::No;
-    };
-    let Walk::Got(q, u) = walk_option(0x4D, words, p, out, t) else {
-        return Walk::No;
-    };
+    let (p, t) = walk_option(0x4C, words, at, out, s)?;
+    let (q, u) = walk_option(0x4D, words, p, out, t)?;
     walk_inner(words, q, out, u)
 }
 
 pub fn walk_sub(words: &[u32], at: usize, out: &mut [u8], s: Done) -> Walk
     ensures { Walks sub_words sub_bytes.print silent words.now at out.old s out.new result }
 {
-    let Walk::Got(p, t) = walk_supers(words, at, out, s) else {
-        return Walk::No;
-    };
-    let Walk::Got(q, u) = walk_shared(words, p, out, t) else {
-        return Walk::No;
-    };
+    let (p, t) = walk_supers(words, at, out, s)?;
+    let (q, u) = walk_shared(words, p, out, t)?;
     walk_described(words, q, out, u)
 }

@@ -1,5 +1,5 @@
 -- Tables and their like as words and as bytes, by computation: the crate's own example of a table section, and one of each kind of flags. Assumes nothing.
-use Rattle.std.specs.Prelude.{◌≡◌, refl, true, false, [], ◌∷◌}
+use Rattle.std.specs.Prelude.{◌≡◌, refl, true, false, [], ◌∷◌, None, Some}
 use Rattle.leb128.specs.Leb.{leb, leb_by}
 use Rattle.types.specs.Bytes.{null_of}
 use Rattle.types.specs.declared.AbstractHeapType.TheVariants.{Func}
@@ -9,7 +9,6 @@ use Rattle.tables.specs.TableType.{table_words, table_bytes, memory_words, memor
 use Rattle.tables.specs.GlobalType.{global_words, global_bytes}
 use Rattle.tables.specs.TagType.{exception_of, tag_words, tag_bytes}
 use Rattle.tables.specs.Table.{table_section}
-use Rattle.limits.specs.declared.Maximum.TheVariants.{None, Some}
 use Rattle.tables.specs.declared.TableType.{TableType}
 use Rattle.tables.specs.declared.MemoryType.{MemoryType}
 use Rattle.tables.specs.declared.GlobalType.{GlobalType}

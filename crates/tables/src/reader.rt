@@ -11,9 +11,8 @@ ghost use Rattle.tables.specs.GlobalType.{global_words, global_bytes};
 ghost use Rattle.tables.specs.TagType.{tag_words, tag_bytes};
 ghost use Rattle.tables.specs.Table.{bare_words, table_type, table_section};
 
-use format::{Done, Walk, append_word};
+use format::{Done, Walk, append};
 use limits::read_limits;
-use numbers::ReadU32;
 use parts::read_expr;
 use refs::read_ref;
 use texts::{Span, append_span};
@@ -28,18 +27,14 @@ pub fn read_memory_type(b: &[u8], at: usize, out: &mut [u32], s: Done) -> Walk
 pub fn read_table_type(b: &[u8], at: usize, out: &mut [u32], s: Done) -> Walk
     ensures { Walks table_bytes table_words.print silent b.now at out.old s out.new result }
 {
-    let Walk::Got(p, t) = read_ref(b, at, out, s) else {
-        return Walk::No;
-    };
+    let (p, t) = read_ref(b, at, out, s)?;
     read_limits(b, p, out, t)
 }
 
 pub fn read_global_type(b: &[u8], at: usize, out: &mut [u32], s: Done) -> Walk
     ensures { Walks global_bytes global_words.print silent b.now at out.old s out.new result }
 {
-    let Walk::Got(p, t) = read_val(b, at, out, s) else {
-        return Walk::No;
-    };
+    let (p, t) = read_val(b, at, out, s)?;
     read_mutable(b, p, out, t)
 }
 
@@ -47,27 +42,22 @@ pub fn read_global_type(b: &[u8], at: usize, out: &mut [u32], s: Done) -> Walk
 pub fn read_tag_type(b: &[u8], at: usize, out: &mut [u32], s: Done) -> Walk
     ensures { Walks tag_bytes tag_words.print silent b.now at out.old s out.new result }
 {
-    if b.len() <= at {
-        return Walk::No;
+    if *b.get(at)? != 0 {
+        return None;
     }
-    if b[at] != 0 {
-        return Walk::No;
-    }
-    let ReadU32::Value(x, p) = numbers::decode_u32(b, at + 1) else {
-        return Walk::No;
+    let Some((x, p)) = numbers::decode_u32(b, at + 1) else {
+        return None;
     };
-    Walk::Got(p, append_word(x, out, s))
+    Some((p, append(x, out, s)))
 }
 
 // A table type, and two unused words behind its own.
 fn read_bare(b: &[u8], at: usize, out: &mut [u32], s: Done) -> Walk
     ensures { Walks table_bytes bare_words.print silent b.now at out.old s out.new result }
 {
-    let Walk::Got(p, t) = read_table_type(b, at, out, s) else {
-        return Walk::No;
-    };
+    let (p, t) = read_table_type(b, at, out, s)?;
     let none = Span { start: 0, len: 0 };
-    Walk::Got(p, append_span(none, out, t))
+    Some((p, append_span(none, out, t)))
 }
 
 // A table type, and the expression of its initial value.
@@ -75,9 +65,7 @@ fn read_init(b: &[u8], at: usize, out: &mut [u32], s: Done) -> Walk
     requires { length b.now ≤ text_most }
     ensures { Reading (both table_type expression) b.now at out.old s out.new result }
 {
-    let Walk::Got(p, t) = read_table_type(b, at, out, s) else {
-        return Walk::No;
-    };
+    let (p, t) = read_table_type(b, at, out, s)?;
     read_expr(b, p, out, t)
 }
 
@@ -86,19 +74,13 @@ pub fn walk_bytes(b: &[u8], at: usize, out: &mut [u32], s: Done) -> Walk
     requires { length b.now ≤ text_most }
     ensures { Reading table_section b.now at out.old s out.new result }
 {
-    if b.len() <= at {
-        return Walk::No;
-    }
-    if b[at] != 0x40 {
-        let t = append_word(0, out, s);
+    if *b.get(at)? != 0x40 {
+        let t = append(0, out, s);
         return read_bare(b, at, out, t);
     }
-    if b.len() - at < 2 {
-        return Walk::No;
+    if *b.get(at + 1)? != 0x00 {
+        return None;
     }
-    if b[at + 1] != 0x00 {
-        return Walk::No;
-    }
-    let t = append_word(1, out, s);
+    let t = append(1, out, s);
     read_init(b, at + 2, out, t)
 }

@@ -8,7 +8,7 @@ ghost use Rattle.tables.specs.GlobalType.{global_words, global_bytes};
 ghost use Rattle.tables.specs.TagType.{tag_words, tag_bytes};
 ghost use Rattle.tables.specs.Table.{bare_words, form, table_section};
 
-use format::{Done, Walk, append_byte};
+use format::{Done, Walk, append};
 use limits::walk_limits;
 use numbers::append_u32;
 use parts::walk_expr;
@@ -25,18 +25,14 @@ pub fn walk_memory_type(words: &[u32], at: usize, out: &mut [u8], s: Done) -> Wa
 pub fn walk_table_type(words: &[u32], at: usize, out: &mut [u8], s: Done) -> Walk
     ensures { Walks table_words table_bytes.print silent words.now at out.old s out.new result }
 {
-    let Walk::Got(p, t) = walk_ref(words, at, out, s) else {
-        return Walk::No;
-    };
+    let (p, t) = walk_ref(words, at, out, s)?;
     walk_limits(words, p, out, t)
 }
 
 pub fn walk_global_type(words: &[u32], at: usize, out: &mut [u8], s: Done) -> Walk
     ensures { Walks global_words global_bytes.print silent words.now at out.old s out.new result }
 {
-    let Walk::Got(p, t) = walk_val(words, at, out, s) else {
-        return Walk::No;
-    };
+    let (p, t) = walk_val(words, at, out, s)?;
     walk_mutable(words, p, out, t)
 }
 
@@ -44,20 +40,16 @@ pub fn walk_global_type(words: &[u32], at: usize, out: &mut [u8], s: Done) -> Wa
 pub fn walk_tag_type(words: &[u32], at: usize, out: &mut [u8], s: Done) -> Walk
     ensures { Walks tag_words tag_bytes.print silent words.now at out.old s out.new result }
 {
-    if words.len() <= at {
-        return Walk::No;
-    }
-    let t = append_byte(0x00, out, s);
-    Walk::Got(at + 1, append_u32(words[at], out, t))
+    let x = *words.get(at)?;
+    let t = append(0x00, out, s);
+    Some((at + 1, append_u32(x, out, t)))
 }
 
 // A table type, and the two unused words of a table without an initial value.
 fn walk_bare(words: &[u32], at: usize, out: &mut [u8], s: Done) -> Walk
     ensures { Walks bare_words table_bytes.print silent words.now at out.old s out.new result }
 {
-    let Walk::Got(p, t) = walk_table_type(words, at, out, s) else {
-        return Walk::No;
-    };
+    let (p, t) = walk_table_type(words, at, out, s)?;
     walk_unused(words, p, t)
 }
 
@@ -65,11 +57,9 @@ fn walk_bare(words: &[u32], at: usize, out: &mut [u8], s: Done) -> Walk
 fn walk_init(words: &[u32], at: usize, text: &[u8], out: &mut [u8], s: Done) -> Walk
     ensures { Writing (form true) text.now words.now at out.old s out.new result }
 {
-    let t = append_byte(0x40, out, s);
-    let u = append_byte(0x00, out, t);
-    let Walk::Got(p, v) = walk_table_type(words, at, out, u) else {
-        return Walk::No;
-    };
+    let t = append(0x40, out, s);
+    let u = append(0x00, out, t);
+    let (p, v) = walk_table_type(words, at, out, u)?;
     walk_expr(words, p, text, out, v)
 }
 
@@ -77,12 +67,9 @@ fn walk_init(words: &[u32], at: usize, text: &[u8], out: &mut [u8], s: Done) -> 
 pub fn walk_words(words: &[u32], at: usize, text: &[u8], out: &mut [u8], s: Done) -> Walk
     ensures { Writing table_section text.now words.now at out.old s out.new result }
 {
-    if words.len() <= at {
-        return Walk::No;
-    }
-    match words[at] {
+    match *words.get(at)? {
         0 => walk_bare(words, at + 1, out, s),
         1 => walk_init(words, at + 1, text, out, s),
-        _ => Walk::No,
+        _ => None,
     }
 }

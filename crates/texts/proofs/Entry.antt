@@ -9,8 +9,8 @@ use Rattle.format.specs.Write.{over}
 use Rattle.format.specs.Count.{no_refusal, counted, count_in, low_in, has_start, has_count, has_lowest}
 use Rattle.format.specs.Walk.{Walks, Walked, Gone, not_found, gone}
 use Rattle.format.specs.declared.Done.{Done}
-use Rattle.format.specs.declared.Walk.{Walk}
-use Rattle.format.specs.declared.Walk.TheVariants as walks
+use Rattle.format.specs.Walk.{Walk}
+use Rattle.std.specs.Prelude.{None, Some}
 use Rattle.texts.specs.Text.{lowest_of}
 use Rattle.texts.specs.Judge.{Records, words_most, text_most, item_most, record_in, item_in, why, two_exactly, whole_back, record_inv, record_back, no_record_exactly, fine, fine_accepted, drawn_first, drawn_none}
 
@@ -28,16 +28,16 @@ module _ {A : Type 0} (R : Records A) (w t : List ℕ) where
   none_is n = (two_exactly R w t).1 (tt, (no_record_exactly R w).1 (λ a ok e k. n a (whole_back R w a ok e)))
 
   module _ (old : List ℕ) (s : Done) (new : List ℕ) (r : Walk) (h : AddWalks old s new r) where
-    pub no_record : r ≡ walks.No → why R w t ≡ 2
+    pub no_record : r ≡ None → why R w t ≡ 2
     no_record e =
         let f = not_found h e in
         none_is (λ a. fail_got (R.words.parse w) a [] f)
 
     -- what a walk that found a value says of it
-    walk_gone : {p : ℕ} {u : Done} → r ≡ walks.Got p u → Gone R.words (R.item t) (λ a. lowest_of t (R.texts a)) w 0 old s new p u
+    walk_gone : {p : ℕ} {u : Done} → r ≡ Some (p, u) → Gone R.words (R.item t) (λ a. lowest_of t (R.texts a)) w 0 old s new p u
     walk_gone e = gone R.words h e
 
-    pub words_left : {p : ℕ} {u : Done} → r ≡ walks.Got p u → (p ≡ length w → ⊥) → why R w t ≡ 2
+    pub words_left : {p : ℕ} {u : Done} → r ≡ Some (p, u) → (p ≡ length w → ⊥) → why R w t ≡ 2
     words_left e n = let g = walk_gone e in none_is (λ a q. n (same_place w g.place (omega arith) (got_rest (sym g.read ∙ q) ∙ sym (drop-length w))))
 
   -- ---- else they are a record's, and a walk from nothing on counts its item and finds the lowest refusal that its texts draw, if it is below the one that
@@ -49,7 +49,7 @@ module _ {A : Type 0} (R : Records A) (w t : List ℕ) where
     pub count : count_in u ≡ counted (length (R.item t value))
     pub lowest : low_in u ≡ min from (lowest_of t (R.texts value))
 
-  pub measured : (old : List ℕ) (s : Done) (new : List ℕ) (r : Walk) → AddWalks old s new r → {p : ℕ} {u : Done} → r ≡ walks.Got p u → p ≡ length w
+  pub measured : (old : List ℕ) (s : Done) (new : List ℕ) (r : Walk) → AddWalks old s new r → {p : ℕ} {u : Done} → r ≡ Some (p, u) → p ≡ length w
       → length w ≤ words_most → {from : ℕ} → s.v ≡ from → from ≤ no_refusal → Measured from u
   measured old s new r h {p} {u} e all few {from} start low =
       let g = walk_gone old s new r h e in

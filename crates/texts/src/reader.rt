@@ -8,40 +8,33 @@ ghost use Rattle.texts.specs.Judge.{text_most};
 ghost use Rattle.texts.specs.Spans.{span};
 ghost use Rattle.texts.specs.Place.{span_at, sized_at, text_at};
 
-use crate::{Span, TextAt};
-use exprs::ExprEnd;
-use format::{Done, append_words};
-use numbers::ReadU32;
+use crate::Span;
+use format::{Done, append_all};
 
 // Data behind its length.
-pub fn find_data(bytes: &[u8], at: usize) -> TextAt
+pub fn find_data(bytes: &[u8], at: usize) -> Option<Span>
     requires { length bytes.now ≤ text_most }
     ensures { result ≡ text_at (sized_at at) ((sized u32).parse (drop at bytes.now)) }
 {
-    let ReadU32::Value(n, p) = numbers::decode_u32(bytes, at) else {
-        return TextAt::No;
+    let Some((n, p)) = numbers::decode_u32(bytes, at) else {
+        return None;
     };
     if bytes.len() - p < n as usize {
-        return TextAt::No;
+        return None;
     }
-    TextAt::At(Span {
+    Some(Span {
         start: p as u32,
         len: n,
     })
 }
 
 // An expression, up to its 0B.
-pub fn find_expr(bytes: &[u8], at: usize) -> TextAt
+pub fn find_expr(bytes: &[u8], at: usize) -> Option<Span>
     requires { length bytes.now ≤ text_most }
     ensures { result ≡ text_at (span_at at) (expr.parse (drop at bytes.now)) }
 {
-    if bytes.len() < at {
-        return TextAt::No;
-    }
-    let ExprEnd::At(n) = exprs::expr_end(&bytes[at..]) else {
-        return TextAt::No;
-    };
-    TextAt::At(Span {
+    let n = exprs::expr_end(bytes.get(at..)?)?;
+    Some(Span {
         start: at as u32,
         len: n as u32,
     })
@@ -50,5 +43,5 @@ pub fn find_expr(bytes: &[u8], at: usize) -> TextAt
 pub fn append_span(v: Span, out: &mut [u32], s: Done) -> Done
     ensures { Appends (span.print v) out.old s out.new result }
 {
-    append_words(&[v.start, v.len], out, s)
+    append_all(&[v.start, v.len], out, s)
 }

@@ -9,16 +9,17 @@ use mir.Syntax.{w8}
 use lib.ListN.{length, get_or, length-drop}
 use borrow.Rule.Slice.PartMut.{put_mid, mid_of, same_len_mid}
 use Rattle.format.specs.Write.{Writes, writes, todo_two, rest_lent}
-use Rattle.format.specs.declared.Written.{Written}
+use Rattle.format.specs.Write.{Written}
 use Rattle.frames.specs.Ids.{id_of, id_small}
 use Rattle.frames.specs.Builder.{grown_for, store_most, is_over, is_full, Within, within, has_room}
 use Rattle.frames.specs.Append.{head_bytes, refused}
 use Rattle.frames.specs.declared.State.{State}
 use Rattle.texts.specs.Judge.{item_most, why, item_in}
 use Rattle.items.specs.Record.{records}
-use Rattle.items.specs.Judging.{section_in, first_word, Judges, Tried, Puts, told_refused, told_length, judged_tried}
-use Rattle.items.specs.declared.Judged.{Judged}
-use Rattle.items.specs.declared.Judged.TheVariants.{Refused, Length}
+use Rattle.items.specs.Judging.{section_in, first_word, judged, Judges, Tried, Puts, told_refused, told_length, judged_tried}
+use Rattle.std.specs.Prelude.{Result, Ok, Err}
+use Rattle.format.specs.Refusal.{number_of, numbered}
+use Rattle.format.specs.declared.refusal.Refusal.{Refusal}
 use Rattle.thriftbell.specs.Add.{outcome, added, adding, over, drawn, full, fits, Storable}
 
 -- ---- the answer
@@ -26,23 +27,23 @@ use Rattle.thriftbell.specs.Add.{outcome, added, adding, over, drawn, full, fits
 pub state_within : (state : State) (xs : List ℕ) {b : Bool} → b ≡ is_over state xs → b ≡ false → Within state xs
 state_within state xs o i = within state xs (sym o ∙ i)
 
-pub few_bytes : {w t old new : List ℕ} {r : Judged} {n : ℕ} → Judges w t old new r → r ≡ Length n → n ≤ item_most
-few_bytes {w} {t} {n = n} j e = (told_length w t n (sym j.is ∙ e)).2
+pub few_bytes : {w t old new : List ℕ} {r : Result ℕ Refusal} {n : ℕ} → Judges w t old new r → r ≡ Ok n → n ≤ item_most
+few_bytes {w} {t} {n = n} j e = (told_length w t n (sym j.is ∙ ap judged e)).2
 
 module _ (state : State) (xs w t : List ℕ) {b : Bool} (o : b ≡ is_over state xs) where
   pub over_refused : b ≡ true → refused state xs 1 ≡ adding state xs w t
   over_refused e = over state xs w t (sym o ∙ e)
 
-  module _ (i : b ≡ false) {old new : List ℕ} {r : Judged} (j : Judges w t old new r) where
+  module _ (i : b ≡ false) {old new : List ℕ} {r : Result ℕ Refusal} (j : Judges w t old new r) where
     not_over : is_over state xs ≡ false
     not_over = sym o ∙ i
 
-    pub record_refused : {k : ℕ} → r ≡ Refused k → refused state xs k ≡ adding state xs w t
-    record_refused {k} e = let d = told_refused w t k (sym j.is ∙ e) in drawn state xs w t not_over k d.1 d.0
+    pub record_refused : {k : Refusal} → r ≡ Err k → refused state xs (number_of k) ≡ adding state xs w t
+    record_refused {k} e = let h = numbered k in drawn state xs w t not_over (number_of k) (λ z. omega arith) (told_refused w t k (sym j.is ∙ ap judged e))
 
-    module _ {n : ℕ} (e : r ≡ Length n) where
+    module _ {n : ℕ} (e : r ≡ Ok n) where
       good : (why records w t ≡ 0) × (length (item_in records w t) ≡ n) × (n ≤ item_most)
-      good = told_length w t n (sym j.is ∙ e)
+      good = told_length w t n (sym j.is ∙ ap judged e)
 
       module _ {f : Bool} (q : f ≡ is_full state xs n) where
         filled : is_full state xs (length (item_in records w t)) ≡ f
@@ -51,14 +52,14 @@ module _ (state : State) (xs w t : List ℕ) {b : Bool} (o : b ≡ is_over state
         pub full_refused : f ≡ true → refused state xs 7 ≡ adding state xs w t
         full_refused m = full state xs w t not_over good.0 (filled ∙ m)
 
-        pub frame_added : {g : State} {ys : List ℕ} → f ≡ false → outcome (record { state = g; number = 0 }) ys ≡ added state xs w t
-            → outcome (record { state = g; number = 0 }) ys ≡ adding state xs w t
+        pub frame_added : {g : State} {ys : List ℕ} → f ≡ false → outcome state (Ok g) ys ≡ added state xs w t
+            → outcome state (Ok g) ys ≡ adding state xs w t
         frame_added m p = p ∙ fits state xs w t not_over good.0 (filled ∙ m)
 
-pub accepted : {state : State} {xs w t old new : List ℕ} {r : Judged} {n : ℕ} {f : Bool} → Judges w t old new r → length new ≡ length old → r ≡ Length n → Within state xs
+pub accepted : {state : State} {xs w t old new : List ℕ} {r : Result ℕ Refusal} {n : ℕ} {f : Bool} → Judges w t old new r → length new ≡ length old → r ≡ Ok n → Within state xs
     → f ≡ is_full state xs n → f ≡ false → Storable state xs w t n new
 accepted {w = w} {t = t} {old = old} {new = new} {n = n} j l e i q m =
-    let g = told_length w t n (sym j.is ∙ e) in
+    let g = told_length w t n (sym j.is ∙ ap judged e) in
     record { inside = i; sound = g.0; tried = judged_tried w t n old new g.0 g.1 l j.puts; room = sym q ∙ m }
 
 -- ---- the frame
@@ -93,7 +94,7 @@ module _ {state : State} {xs w t : List ℕ} {n : ℕ} {s : List ℕ} (a : Stora
     -- head and item, one behind the other, and the state that they make
     pub frame_put : {g : State} {ys : List ℕ}
         → (Tried w t n s → Puts w t (mid_of (state.used + 5) (length headed - (state.used + 5)) headed) ys) → g ≡ grown_for state n
-        → outcome (record { state = g; number = 0 }) (put_mid (state.used + 5) (length headed - (state.used + 5)) headed ys) ≡ added state xs w t
+        → outcome state (Ok g) (put_mid (state.used + 5) (length headed - (state.used + 5)) headed ys) ≡ added state xs w t
     frame_put {g} {ys} b e =
         let at = state.used in
         let item = item_in records w t in

@@ -3,7 +3,7 @@ use mathlib.Core.Path.{◌≡◌, sym, ap, subst, ◌∙◌}
 use mathlib.Core.Logic.{⊎_elim}
 use mathlib.Core.List.{List}
 use mathlib.Core.Option.{some}
-use Prim.Native.Nat.{ℕ, ◌-◌, ◌≤◌, ◌<◌, min}
+use Prim.Native.Nat.{ℕ, ◌≤◌, ◌<◌, min}
 use native.Mathlib.Omega.{arith}
 use lib.ListN.{length, take, drop, length-take}
 use lib.Seq.{take_all, take_at}
@@ -13,13 +13,13 @@ use Rattle.format.specs.Read.{place_of}
 use Rattle.format.specs.Walk.{Walking, Walked, Found, not_found, was_found}
 use Rattle.format.specs.Write.{Writes, wrote, writes_as, fits_or}
 use Rattle.format.specs.declared.Done.{Done}
-use Rattle.format.specs.declared.Walk.{Walk}
-use Rattle.format.specs.declared.Walk.TheVariants as walks
-use Rattle.format.specs.declared.Written.{Written}
+use Rattle.format.specs.Walk.{Walk}
+use Rattle.std.specs.Prelude.{None, Some}
+use Rattle.format.specs.Write.{Written}
 use Rattle.texts.specs.Judge.{words_most, text_most}
 use Rattle.items.specs.Record.{Item, begins_in, record_of}
 use Rattle.thriftbell.specs.Read.{Outcome, outcome, refused, front_of, words_in, reading, none_read, short_out, was_read, none_begins, many_words, few_words, only_front, PutsWords}
-use Rattle.thriftbell.specs.declared.Taken.TheVariants.{Took}
+use Rattle.std.specs.Prelude.{Ok}
 
 -- what was appended stands at the front, where there was room
 stands : {p old new : List ℕ} {u : Done} {n : ℕ} → Has p no_refusal old new u → length p ≡ n → n ≤ words_most → n ≤ length new → take n new ≡ p
@@ -32,10 +32,10 @@ module _ (id : ℕ) (out : List ℕ) {b old : List ℕ} {s : Done} {new : List �
   all_of : front_of b ≡ b
   all_of = take_all text_most b k
 
-  pub item_missing : r ≡ walks.No → refused out 11 ≡ reading id b out
+  pub item_missing : r ≡ None → refused out 11 ≡ reading id b out
   item_missing e = none_read id b out (none_begins id b out (ap (begins_in id) all_of ∙ not_found h e))
 
-  module _ (z : s.v ≡ no_refusal) {end : ℕ} {u : Done} (q : r ≡ walks.Got end u) {n : ℕ} (c : n ≡ count_in u) where
+  module _ (z : s.v ≡ no_refusal) {end : ℕ} {u : Done} (q : r ≡ Some (end, u)) {n : ℕ} (c : n ≡ count_in u) where
     item : Found (begins_in id) record_of silent b 0 old s new end u
     item = was_found h q
 
@@ -60,19 +60,15 @@ module _ (id : ℕ) (out : List ℕ) {b old : List ℕ} {s : Done} {new : List �
       pub short_there : length out < n → refused out 10 ≡ reading id b out
       short_there m = short_out id b out (record_of item.value) end words (omega (arith, m, long))
 
-      pub words_there : {ys : List ℕ} → n ≤ length out → PutsWords id b n new out ys → outcome (Took n end) ys ≡ reading id b out
+      pub words_there : {ys : List ℕ} → n ≤ length out → PutsWords id b n new out ys → outcome (Ok (record { words = n; bytes = end })) ys ≡ reading id b out
       words_there m p =
           let memory = p.puts item.value item.rest item.is long (stands has long few) few m in
           (λ j. record { number = 0; words = sym long j; taken = end; memory = memory j }) ∙ was_read id b out (record_of item.value) end words (omega (arith, m, long))
 
 -- ---- the words
 
--- as the code cuts it
-front : (s : List ℕ) (n : ℕ) → take (n - 0) (drop 0 s) ≡ take n s
-front s n = let z : n - 0 ≡ n = omega arith in rw z
-
-pub words_copied : {id : ℕ} {b : List ℕ} {n : ℕ} {s out ys : List ℕ} {r : Written} → n ≤ length s → Writes (take (n - 0) (drop 0 s)) out ys r → PutsWords id b n s out ys
-words_copied {n = n} {s = s} m w = record { puts = λ x r e long tried few room. (wrote (writes_as (front s n ∙ tried m) w) (omega (arith, long, room))).1 }
+pub words_copied : {id : ℕ} {b : List ℕ} {n : ℕ} {s out ys : List ℕ} {r : Written} → n ≤ length s → Writes (take n s) out ys r → PutsWords id b n s out ys
+words_copied {n = n} {s = s} m w = record { puts = λ x r e long tried few room. (wrote (writes_as (tried m) w) (omega (arith, long, room))).1 }
 
 pub words_walked : {id n : ℕ} {s b out ys : List ℕ} {d : Done} {r : Walk} → d.v ≡ no_refusal → Walking (begins_in id) record_of silent b 0 out d ys r → PutsWords id b n s out ys
 words_walked {b = b} {out = out} {ys = ys} {d = d} {r = r} z h =
@@ -90,16 +86,16 @@ front_is b =
     (λ (h : length b < text_most). let e : min text_most (length b) ≡ length b = omega arith in rw e (take_all (length b) b (omega arith) ∙ sym (take_all text_most b (omega arith))))
     (fits_or text_most (length b))
 
-module _ (b : List ℕ) (n : ℕ) (e : n ≡ min text_most (length b)) where
-  cut : take (n - 0) (drop 0 b) ≡ take (min text_most (length b)) b
-  cut = front b n ∙ ap (λ (m : ℕ). take m b) e
+module _ (b : List ℕ) (n : ℕ) (e : n ≡ min (length b) text_most) where
+  cut : take n b ≡ take (min text_most (length b)) b
+  cut = ap (λ (m : ℕ). take m b) (e ∙ omega arith)
 
   pub front_within : n ≤ length b
   front_within = omega arith
 
-  pub front_short : length (take (n - 0) (drop 0 b)) ≤ text_most
+  pub front_short : length (take n b) ≤ text_most
   front_short = rw cut (short b)
 
   -- bytes behind it do not matter
-  pub front_read : (id : ℕ) (out : List ℕ) {o : Outcome} → o ≡ reading id (take (n - 0) (drop 0 b)) out → o ≡ reading id b out
+  pub front_read : (id : ℕ) (out : List ℕ) {o : Outcome} → o ≡ reading id (take n b) out → o ≡ reading id b out
   front_read id out q = q ∙ only_front id _ b out (ap front_of cut ∙ front_is b)

@@ -2,7 +2,7 @@
 use Rattle.std.specs.Prelude.{◌≡◌, ◌↔◌, Bool, true, false, cond, List, [], ◌∷◌, ◌++◌, ℕ, eqb, length, take, drop}
 use Rattle.std.proofs.Math.Path.{refl, sym}
 use Rattle.std.proofs.Common.{ap, ◌∙◌, arith, eq-eqb, ne_eqb}
-use Rattle.format.specs.Answers.{answer, NoneHolds, given_exactly, accepted_exactly, answer_then, settled, settled_accepts, settled_refuses, settled_exactly, one_stands}
+use Rattle.format.specs.Answers.{answer, NoneHolds, given_exactly, accepted_exactly, answer_then, settled, settled_accepts, settled_refuses, settled_exactly}
 use Rattle.frames.specs.Builder.{is_over, is_full, Within}
 use Rattle.frames.specs.Append.{Outcome, refused, appended}
 use Rattle.frames.specs.declared.State.{State}
@@ -10,15 +10,24 @@ use Rattle.texts.specs.Judge as judge
 use Rattle.texts.specs.Judge.{why, item_in}
 use Rattle.items.specs.Record.{records}
 use Rattle.items.specs.Judging.{section_in, Tried}
-use Rattle.thriftbell.specs.declared.Added.{Added}
+use Rattle.std.specs.Prelude.{Result, Ok, Err}
+use Rattle.format.specs.Refusal.{number_of, one_number, numbered}
+use Rattle.format.specs.declared.refusal.Refusal.{Refusal}
 
--- what an answer stands for: the state is beside it
-abbrev pub outcome : Added → List ℕ → Outcome
-outcome r ys = record { number = r.number; state = r.state; store = ys }
+-- what an answer stands for: beside a refusal the state is as it was
+abbrev pub outcome : State → Result State Refusal → List ℕ → Outcome
+outcome state (Ok s) ys = record { number = 0; state = s; store = ys }
+outcome state (Err e) ys = record { number = number_of e; state = state; store = ys }
 
 -- any two answers and stores that stand for the same are equal
-pub one_added : {o : Outcome} {r s : Added} {ys zs : List ℕ} → outcome r ys ≡ o → outcome s zs ≡ o → (r ≡ s) × (ys ≡ zs)
-one_added = one_stands outcome (λ o. record { state = o.state; number = o.number }) (λ o. o.store) (λ r m. refl) (λ r m. refl)
+pub one_added : (state : State) {o : Outcome} {r s : Result State Refusal} {ys zs : List ℕ} → outcome state r ys ≡ o → outcome state s zs ≡ o → (r ≡ s) × (ys ≡ zs)
+one_added state {o} {r} {s} {ys} {zs} p q = go r s (p ∙ sym q)
+  where
+    go : (r s : Result State Refusal) → outcome state r ys ≡ outcome state s zs → (r ≡ s) × (ys ≡ zs)
+    go (Ok a) (Ok b) e = (ap Ok (ap (λ (o : Outcome). o.state) e), ap (λ (o : Outcome). o.store) e)
+    go (Ok a) (Err d) e = let z : 0 ≡ number_of d = ap (λ (o : Outcome). o.number) e in let h = numbered d in absurd (omega arith)
+    go (Err c) (Ok b) e = let z : number_of c ≡ 0 = ap (λ (o : Outcome). o.number) e in let h = numbered c in absurd (omega arith)
+    go (Err c) (Err d) e = (ap Err (one_number c d (ap (λ (o : Outcome). o.number) e)), ap (λ (o : Outcome). o.store) e)
 
 module _ (state : State) (xs w t : List ℕ) where
   -- 1: the store; 2 to 6: the record and its text; 7: the room

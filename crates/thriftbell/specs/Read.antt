@@ -1,6 +1,6 @@
 -- What reading an item answers and leaves, for every input (document 01, Answers by number, Reading an item: 11, 10). Assumes nothing.
 use Rattle.std.proofs.Math.Path.{◌≡◌, refl, sym, ap}
-use Rattle.std.proofs.Common.{◌∙◌, true≢false, arith}
+use Rattle.std.proofs.Common.{◌∙◌, arith}
 use Rattle.std.specs.Prelude.{◌↔◌, Bool, true, List, [], ◌∷◌, ℕ, ◌≤◌, ◌<◌, ltb, take, drop}
 use Rattle.std.proofs.Math.Bool.{false}
 use Rattle.std.proofs.Math.Option.{Option, none, some}
@@ -11,9 +11,11 @@ use Rattle.format.specs.Read.{place_of}
 use Rattle.format.specs.Write.{over}
 use Rattle.format.specs.Answers.{answer, NoneHolds, given_exactly, accepted_exactly, settled, settled_accepts, settled_refuses, settled_exactly}
 use Rattle.texts.specs.Judge.{words_most}
-use Rattle.items.specs.Record.{Item, begins_in, read_in, record_of, record_some}
-use Rattle.thriftbell.specs.declared.Taken.{Taken}
-use Rattle.thriftbell.specs.declared.Taken.TheVariants.{Took, Refused}
+use Rattle.items.specs.Record.{Item, begins_in, read_in, record_of}
+use Rattle.std.specs.Prelude.{Result, Ok, Err}
+use Rattle.format.specs.Refusal.{number_of, one_number, numbered}
+use Rattle.format.specs.declared.refusal.Refusal.{Refusal}
+use Rattle.thriftbell.specs.declared.Took.{Took}
 
 -- a number of the table, how many words were written and bytes taken, and the memory that was lent, as it is left
 pub record Outcome : Type 0 where
@@ -27,9 +29,9 @@ abbrev pub refused : List ℕ → ℕ → Outcome
 refused out n = record { number = n; words = 0; taken = 0; memory = out }
 
 -- what an answer stands for
-abbrev pub outcome : Taken → List ℕ → Outcome
-outcome (Took m n) ys = record { number = 0; words = m; taken = n; memory = ys }
-outcome (Refused k) ys = refused ys k
+abbrev pub outcome : Result Took Refusal → List ℕ → Outcome
+outcome (Ok t) ys = record { number = 0; words = t.words; taken = t.bytes; memory = ys }
+outcome (Err e) ys = refused ys (number_of e)
 
 -- it looks at the first 65,536 bytes only
 abbrev pub front_of : List ℕ → List ℕ
@@ -129,36 +131,17 @@ only_front id b c out e = rw e
 
 -- any two answers and outputs that the contract allows are equal
 module _ (id : ℕ) (bytes out : List ℕ) where
-  -- a record has some words
-  some_words : is_nothing (words_in id bytes out) ≡ false → 0 < length (words_of (words_in id bytes out))
-  unfolding words_in
-  some_words e = go (read_in id (front_of bytes)) e
+  pub one_read : {r s : Result Took Refusal} {ys zs : List ℕ} → outcome r ys ≡ reading id bytes out → outcome s zs ≡ reading id bytes out → (r ≡ s) × (ys ≡ zs)
+  one_read {r} {s} {ys} {zs} p q = go r s (p ∙ sym q)
     where
-      go : (m : Parsed Item) → is_nothing (read_of (front_of bytes) m) ≡ false → 0 < length (words_of (read_of (front_of bytes) m))
-      go fail e = absurd (true≢false e)
-      go (got x r) e = record_some x
-
-  -- accepted, it has written some
-  some_written : (reading id bytes out).number ≡ 0 → (reading id bytes out).words ≡ 0 → ⊥
-  unfolding reading
-  some_written z e =
-      let h = (zero_exactly id bytes out).0 z in
-      let a : answer (conditions id bytes out) ≡ 0 = (accepted_exactly (conditions id bytes out) refl).1 h in
-      let o = settled_accepts (refused out) (took id bytes out) (answer (conditions id bytes out)) a in
-      omega (arith, ap (λ (o : Outcome). o.words) o, some_words h.0)
-
-  pub one_read : {r s : Taken} {ys zs : List ℕ} → outcome r ys ≡ reading id bytes out → outcome s zs ≡ reading id bytes out → (r ≡ s) × (ys ≡ zs)
-  one_read {r} {s} {ys} {zs} p q = go r s p q
-    where
-      go : (r s : Taken) → outcome r ys ≡ reading id bytes out → outcome s zs ≡ reading id bytes out → (r ≡ s) × (ys ≡ zs)
-      go (Took m n) (Took k l) p q =
-          let e = p ∙ sym q in
+      go : (r s : Result Took Refusal) → outcome r ys ≡ outcome s zs → (r ≡ s) × (ys ≡ zs)
+      go (Ok a) (Ok b) e =
           let f = ap (λ (o : Outcome). o.words) e in
           let g = ap (λ (o : Outcome). o.taken) e in
-          ((λ i. Took (f i) (g i)), ap (λ (o : Outcome). o.memory) e)
-      go (Took m n) (Refused k) p q = absurd (some_written (sym (ap (λ (o : Outcome). o.number) p)) (sym (ap (λ (o : Outcome). o.words) q)))
-      go (Refused k) (Took m n) p q = absurd (some_written (sym (ap (λ (o : Outcome). o.number) q)) (sym (ap (λ (o : Outcome). o.words) p)))
-      go (Refused k) (Refused l) p q = let e = p ∙ sym q in (ap Refused (ap (λ (o : Outcome). o.number) e), ap (λ (o : Outcome). o.memory) e)
+          ((λ i. Ok (record { words = f i; bytes = g i })), ap (λ (o : Outcome). o.memory) e)
+      go (Ok a) (Err d) e = let z : 0 ≡ number_of d = ap (λ (o : Outcome). o.number) e in let h = numbered d in absurd (omega arith)
+      go (Err c) (Ok b) e = let z : number_of c ≡ 0 = ap (λ (o : Outcome). o.number) e in let h = numbered c in absurd (omega arith)
+      go (Err c) (Err d) e = (ap Err (one_number c d (ap (λ (o : Outcome). o.number) e)), ap (λ (o : Outcome). o.memory) e)
 
 -- a record of n words is put at the front of what was lent, where there is room for it, if its words stand at the front of what was tried, where there was room
 pub record PutsWords (id : ℕ) (b : List ℕ) (n : ℕ) (tried old new : List ℕ) : Type 0 where

@@ -1,29 +1,30 @@
 // The public entries, all of them: a store of records, the module that is built of it, the reader of its items, and the numbers, names and expressions of which they are made.
 #![tactic(auto)]
 
-ghost use Rattle.std.specs.Prelude.{◌≡◌, ◌≤◌, length};
+ghost use Rattle.std.specs.Prelude.{◌≡◌, ◌≤◌, length, Ok};
 ghost use Rattle.thriftbell.specs.Add.{Storable, outcome, added, adding};
 ghost use Rattle.thriftbell.specs.Read.{outcome as readOutcome, reading, PutsWords};
 
 pub use exprs::{check_expr, i32_const, i64_const};
-pub use format::Written;
-use format::{Done, Walk, copy_words, count, least};
+use format::{Done, NO_REFUSAL, copy};
+pub use format::{Refusal, Written};
 pub use frames::State;
 use frames::{is_full, is_over};
-use items::Judged;
 pub use module::{Finished, Given, Module, finish};
 pub use names::is_name;
 pub use numbers::{
-    ReadI32, ReadI64, ReadU32, ReadU64, decode_i32, decode_i64, decode_index, decode_u32,
-    decode_u64, encode_i32, encode_i64, encode_index, encode_u32, encode_u64, encoding_size,
+    Read, decode_i32, decode_i64, decode_index, decode_u32, decode_u64, encode_i32, encode_i64,
+    encode_index, encode_u32, encode_u64, encoding_size,
 };
 
-// What adding answers: 0, and the state with the frame's room used too; or a number of the table, and then nothing was changed.
-#[derive(Clone, Copy)]
-pub struct Added {
-    pub state: State,
-    pub number: u32,
-}
+// Document 01, Records: of words.
+const WORDS_MOST: usize = 4096;
+
+// Reading looks at so many bytes.
+const FRONT_MOST: usize = 65536;
+
+// What adding answers: the state with the frame's room used too; or a refusal, and then nothing was changed.
+pub type Added = Result<State, Refusal>;
 
 // The frame of a record that is accepted, behind the room used: its head, and its item as judging left it.
 fn put_frame(
@@ -35,68 +36,57 @@ fn put_frame(
     tried: &[u8],
 ) -> State
     requires { Storable state store.old words.now text.now n tried.now }
-    ensures { outcome (record { state = result; number = 0 }) store.new ≡ added state store.old words.now text.now }
+    ensures { outcome state (Ok result) store.new ≡ added state store.old words.now text.now }
 {
     let at = state.used;
     let from = at + 5;
-    frames::put_head(words[0] as u8, n, &mut store[at..]);
+    let _ = frames::put_head(words[0] as u8, n, &mut store[at..]);
     items::put_item(words, text, n, tried, &mut store[from..]);
     state.grown(n)
 }
 
 // What is judged is tried in the room that is lent for it, and put into the store once it is accepted.
 fn add_tried(state: State, store: &mut [u8], words: &[u32], text: &[u8], tried: &mut [u8]) -> Added
-    ensures { outcome result store.new ≡ adding state store.old words.now text.now }
+    ensures { outcome state result store.new ≡ adding state store.old words.now text.now }
 {
     if is_over(state, store) {
-        return Added {
-            state: state,
-            number: 1,
-        };
+        return Err(Refusal::StoreOver);
     }
-    let mut n = 0;
-    match items::judge(words, text, tried) {
-        Judged::Refused(k) => return Added {
-            state: state,
-            number: k,
-        },
-        Judged::Length(length) => n = length,
-    }
+    let n = items::judge(words, text, tried)?;
     if is_full(state, store, n) {
-        return Added {
-            state: state,
-            number: 7,
-        };
+        return Err(Refusal::StoreFull);
     }
-    let grown = put_frame(state, store, words, text, n, tried);
-    Added {
-        state: grown,
-        number: 0,
-    }
+    Ok(put_frame(state, store, words, text, n, tried))
+}
+
+fn add_in<const ROOM: usize>(state: State, store: &mut [u8], words: &[u32], text: &[u8]) -> Added
+    requires { ROOM ≤ 4096 }
+    ensures { outcome state result store.new ≡ adding state store.old words.now text.now }
+{
+    let mut tried = [0u8; ROOM];
+    add_tried(state, store, words, text, &mut tried)
 }
 
 // Clearing more room takes longer than it saves where a record is short. Sixteen words are a table, one import, or data.
 pub fn add(state: State, store: &mut [u8], words: &[u32], text: &[u8]) -> Added
-    ensures { outcome result store.new ≡ adding state store.old words.now text.now }
+    ensures { outcome state result store.new ≡ adding state store.old words.now text.now }
 {
-    if words.len() <= 16 {
-        let mut tried = [0u8; 64];
-        return add_tried(state, store, words, text, &mut tried);
+    match words.len() {
+        0..=16 => add_in::<64>(state, store, words, text),
+        17..=64 => add_in::<512>(state, store, words, text),
+        _ => add_in::<4096>(state, store, words, text),
     }
-    if words.len() <= 64 {
-        let mut tried = [0u8; 512];
-        return add_tried(state, store, words, text, &mut tried);
-    }
-    let mut tried = [0u8; 4096];
-    add_tried(state, store, words, text, &mut tried)
 }
 
-// What reading answers: how many words it wrote and bytes it took; or a number of the table, and then nothing was changed.
-#[derive(Clone, Copy)]
-pub enum Taken {
-    Took(usize, usize),
-    Refused(u32),
+// What reading took of some bytes: how many words it wrote, and bytes it took.
+#[derive(Clone, Copy, Debug, PartialEq, Eq, Hash)]
+pub struct Took {
+    pub words: usize,
+    pub bytes: usize,
 }
+
+// What reading answers; beside a refusal nothing was changed.
+pub type Taken = Result<Took, Refusal>;
 
 // Writes the record of an item, where there is room: as measuring left it, or by a second walk where that had no room.
 fn put_words(id: u8, front: &[u8], n: usize, tried: &[u32], out: &mut [u32])
@@ -104,10 +94,10 @@ fn put_words(id: u8, front: &[u8], n: usize, tried: &[u32], out: &mut [u32])
     ensures { PutsWords id front.now n tried.now out.old out.new }
 {
     if n <= tried.len() {
-        copy_words(&tried[0..n], out);
+        let _ = copy(&tried[..n], out);
         return;
     }
-    items::walk_bytes(id, front, out, Done::new(9));
+    items::walk_bytes(id, front, out, Done::new(NO_REFUSAL));
 }
 
 // Measured first, in the room that is lent for it, so that a refusal changes nothing.
@@ -115,18 +105,30 @@ fn read_tried(id: u8, front: &[u8], tried: &mut [u32], out: &mut [u32]) -> Taken
     requires { length front.now ≤ 65536 }
     ensures { readOutcome result out.new ≡ reading id front.now out.old }
 {
-    let Walk::Got(end, s) = items::walk_bytes(id, front, tried, Done::new(9)) else {
-        return Taken::Refused(11);
+    let Some((end, s)) = items::walk_bytes(id, front, tried, Done::new(NO_REFUSAL)) else {
+        return Err(Refusal::NothingToRead);
     };
-    let n = count(s);
-    if 4096 < n {
-        return Taken::Refused(11);
+    let n = s.count();
+    if WORDS_MOST < n {
+        return Err(Refusal::NothingToRead);
     }
     if out.len() < n {
-        return Taken::Refused(10);
+        return Err(Refusal::OutputShort);
     }
     put_words(id, front, n, tried, out);
-    Taken::Took(n, end)
+    Ok(Took {
+        words: n,
+        bytes: end,
+    })
+}
+
+fn read_in<const ROOM: usize>(id: u8, front: &[u8], out: &mut [u32]) -> Taken
+    requires room { ROOM ≤ 512 }
+    requires short { length front.now ≤ 65536 }
+    ensures { readOutcome result out.new ≡ reading id front.now out.old }
+{
+    let mut tried = [0u32; ROOM];
+    read_tried(id, front, &mut tried, out)
 }
 
 // The records of tables and data have few words, and so have short items: clearing room for more takes longer than reading them.
@@ -134,22 +136,17 @@ fn read_front(id: u8, front: &[u8], out: &mut [u32]) -> Taken
     requires { length front.now ≤ 65536 }
     ensures { readOutcome result out.new ≡ reading id front.now out.old }
 {
-    if id == 4 || id == 11 {
-        let mut tried = [0u32; 16];
-        return read_tried(id, front, &mut tried, out);
+    match (id, front.len()) {
+        (4 | 11, _) => read_in::<16>(id, front, out),
+        (_, 0..=64) => read_in::<128>(id, front, out),
+        _ => read_in::<512>(id, front, out),
     }
-    if front.len() <= 64 {
-        let mut tried = [0u32; 128];
-        return read_tried(id, front, &mut tried, out);
-    }
-    let mut tried = [0u32; 512];
-    read_tried(id, front, &mut tried, out)
 }
 
 // Bytes behind the first 65,536 are not looked at.
 pub fn read_item(id: u8, bytes: &[u8], out: &mut [u32]) -> Taken
     ensures { readOutcome result out.new ≡ reading id bytes.now out.old }
 {
-    let end = least(65536, bytes.len());
-    read_front(id, &bytes[0..end], out)
+    let end = bytes.len().min(FRONT_MOST);
+    read_front(id, &bytes[..end], out)
 }

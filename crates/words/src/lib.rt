@@ -4,5 +4,5 @@
 mod reader;
 mod writer;
 
-pub use reader::{read_index, read_number64};
-pub use writer::{walk_index, walk_number64, walk_unused};
+pub use reader::{read_index, read_list, read_number64};
+pub use writer::{walk_index, walk_list, walk_number64, walk_unused};

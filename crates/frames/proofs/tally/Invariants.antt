@@ -4,8 +4,8 @@ use lib.ListN.{length}
 use Rattle.frames.proofs.Walking.{Tallied}
 use Rattle.frames.proofs.tally.Given as goal
 
-abbrev pub invariant-loop-at : goal.invariant-loop-at
-invariant-loop-at l = Tallied l.frames l.counts l.totals l.at
+abbrev pub invariant-loop-id : goal.invariant-loop-id
+invariant-loop-id l = Tallied l.frames l.tallies l.walk
 
-abbrev pub decreases-loop-at : goal.decreases-loop-at
-decreases-loop-at l = length l.frames - l.at
+abbrev pub decreases-loop-id : goal.decreases-loop-id
+decreases-loop-id l = length l.walk.bytes.now - l.walk.at

@@ -3,8 +3,8 @@ use Rattle.replies.specs.Keeping.{line_kept, store_kept, buffer_kept, out_kept}
 use Rattle.hexlines.proofs.Answering.{answering_starts, piece_kept, answering_goes_on}
 use Rattle.hexlines.proofs.answer_all.Goals as goal
 
-pub loop-turns-init : goal.loop-turns-init
-loop-turns-init g c = search answering_starts
+pub loop-init : goal.loop-init
+loop-init g c = search answering_starts
 
 pub shape_of-piece-then-not-t : goal.shape_of-piece-then-not-t
 shape_of-piece-then-not-t g c = search piece_kept
@@ -21,5 +21,5 @@ shape_of-buffer-then-not-t g c = search buffer_kept
 pub shape_of-out-then-not-t : goal.shape_of-out-then-not-t
 shape_of-out-then-not-t g c = search out_kept
 
-pub loop-turns-preserved : goal.loop-turns-preserved
-loop-turns-preserved g c = search answering_goes_on
+pub loop-preserved : goal.loop-preserved
+loop-preserved g c = search answering_goes_on

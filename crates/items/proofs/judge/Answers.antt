@@ -1,5 +1,5 @@
 -- `items::judge` meets its contract. Assumes nothing.
-use Rattle.items.proofs.Judging.{many_refused, none_refused, rest_refused, text_too_long, text_refused, item_refused, item_measured}
+use Rattle.items.proofs.Judging.{many_refused, none_refused, rest_refused, text_too_long, drawn_some, drawn_few, text_refused, item_refused, item_measured}
 use Rattle.items.proofs.judge.Goals as goal
 
 pub returns-then-words-gt-WORDS_MOST : goal.returns-then-words-gt-WORDS_MOST
@@ -13,6 +13,9 @@ returns-then-end-words c = search rest_refused depth 2
 
 pub returns-then-text-gt-TEXT_MOST : goal.returns-then-text-gt-TEXT_MOST
 returns-then-text-gt-TEXT_MOST c = search text_too_long
+
+pub of-requires : goal.of-requires
+of-requires c = (search drawn_some, search drawn_few)
 
 pub returns-then-low-from : goal.returns-then-low-from
 returns-then-low-from c = search text_refused

@@ -3,9 +3,6 @@ use Rattle.frames.specs.declared.SectionId.TheVariants.{Types, Imports, Tables, 
 use Rattle.items.proofs.Sections.{word_missing, word_section, word_textless, word_other}
 use Rattle.items.proofs.walk_words.Goals as goal
 
-pub returns-then-words-eq0 : goal.returns-then-words-eq0
-returns-then-words-eq0 c = search word_missing
-
 pub returns-in-1 : goal.returns-in-1
 returns-in-1 c = search (word_textless Types)
 
@@ -22,4 +19,7 @@ pub returns-in-11 : goal.returns-in-11
 returns-in-11 c = search (word_section Data)
 
 pub returns-in_default : goal.returns-in_default
-returns-in_default c = search word_other depth 12
+returns-in_default c = search word_missing
+
+pub returns-in_default-2 : goal.returns-in_default-2
+returns-in_default-2 c = search word_other depth 12

@@ -1,22 +1,23 @@
 -- `module::build` meets its contract: the tally tells whether there are frames and how long the module is; header and sections are written where there is
 -- room. Assumes nothing.
-use native.Mathlib.Omega.{arith}
-use borrow.Author.Rules.{rules}
+use Rattle.std.proofs.lemmas.Result.{err_from_is_err_and}
 use Rattle.sections.proofs.Listed.{total_few}
-use Rattle.module.proofs.Finishing.{frames_there, unframed_refused, short_refused, header_behind, sections_room, module_fits, module_kept, module_written}
+use Rattle.module.proofs.Finishing.{tally_some, unframed_refused, short_refused, header_fits, header_behind, sections_room, module_fits, module_written}
 use Rattle.module.proofs.build.Goals as goal
 
-pub returns-then-not-t : goal.returns-then-not-t
-returns-then-not-t c = search unframed_refused
+pub returns-in_err-tallies : goal.returns-in_err-tallies
+returns-in_err-tallies c =
+    let p = err_from_is_err_and c.from_residual.result c.from_residual.ensures.1 in
+    unframed_refused c.args.frames.now c.args.order.now c.args.given c.args.out.now c.tally.ensures c.in_err-tallies.ensures.ok_part p.1 p.2 c.in_err-tallies.ensures.value
 
-pub sections_len-requires : goal.sections_len-requires
-sections_len-requires c = record { listed = search rules; few_ids = search rules; totals_within = search total_few }
-
-pub overflow_add-sections_len : goal.overflow_add-sections_len
-overflow_add-sections_len c = omega (arith, c.sections_len.ensures.bound)
+pub sections_len-requires-clause-totals_within : goal.sections_len-requires-clause-totals_within
+sections_len-requires-clause-totals_within c = let some = tally_some c.in_ok-tallies.ensures.ok_part c.tally.ensures in search total_few
 
 pub returns-then-out-sections_len : goal.returns-then-out-sections_len
-returns-then-out-sections_len c = search short_refused
+returns-then-out-sections_len c = let some = tally_some c.in_ok-tallies.ensures.ok_part c.tally.ensures in search short_refused
+
+pub unwrap-n-requires : goal.unwrap-n-requires
+unwrap-n-requires c = search header_fits
 
 pub slice_bounds-put_sections-count : goal.slice_bounds-put_sections-count
 slice_bounds-put_sections-count c = search header_behind
@@ -24,15 +25,11 @@ slice_bounds-put_sections-count c = search header_behind
 pub slice_bounds-put_sections-start : goal.slice_bounds-put_sections-start
 slice_bounds-put_sections-start c = search header_behind
 
-pub put_sections-requires : goal.put_sections-requires
-put_sections-requires c =
-    record { listed = search rules; tallied = (search rules, search frames_there); frames_within = search rules; room = search sections_room }
+pub put_sections-requires-clause-room : goal.put_sections-requires-clause-room
+put_sections-requires-clause-room c = let some = tally_some c.in_ok-tallies.ensures.ok_part c.tally.ensures in search sections_room
 
 pub overflow_add-result : goal.overflow_add-result
 overflow_add-result c = search module_fits
 
-pub shape_of-out : goal.shape_of-out
-shape_of-out c = search module_kept
-
 pub returns : goal.returns
-returns c = search module_written
+returns c = let some = tally_some c.in_ok-tallies.ensures.ok_part c.tally.ensures in search module_written

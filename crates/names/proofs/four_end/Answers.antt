@@ -1,9 +1,6 @@
 -- `names::four_end` meets its contract. Assumes nothing.
-use Rattle.names.proofs.Reading.{four_top, four_cut, four_none, four_yes, four_second}
+use Rattle.names.proofs.Reading.{four_cut, four_none, four_if}
 use Rattle.names.proofs.four_end.Goals as goal
-
-pub returns-then-b-gt244 : goal.returns-then-b-gt244
-returns-then-b-gt244 c = search four_top
 
 pub returns-then-s-at-lt4 : goal.returns-then-s-at-lt4
 returns-then-s-at-lt4 c = search four_cut
@@ -11,8 +8,5 @@ returns-then-s-at-lt4 c = search four_cut
 pub returns-then-above-gt63 : goal.returns-then-above-gt63
 returns-then-above-gt63 c = search four_none
 
-pub returns-then-is_second : goal.returns-then-is_second
-returns-then-is_second c = search four_yes
-
 pub returns : goal.returns
-returns c = search four_second
+returns c = search four_if

@@ -1,6 +1,5 @@
 -- `names::is_mixed_name` meets its contract: one character after the other, plain ones eight at a time. Assumes nothing.
-use Prim.Native.Nat.{◌-◌}
-use lib.ListN.{length}
+use Rattle.std.proofs.Common.{◌-◌, length}
 use Rattle.names.specs.Name.{NamedTo}
 use Rattle.names.proofs.is_mixed_name.Given as goal
 

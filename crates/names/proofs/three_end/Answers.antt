@@ -1,5 +1,5 @@
 -- `names::three_end` meets its contract. Assumes nothing.
-use Rattle.names.proofs.Reading.{three_cut, three_none, three_yes, three_second}
+use Rattle.names.proofs.Reading.{three_cut, three_none, three_if}
 use Rattle.names.proofs.three_end.Goals as goal
 
 pub returns-then-s-at-lt3 : goal.returns-then-s-at-lt3
@@ -8,8 +8,5 @@ returns-then-s-at-lt3 c = search three_cut
 pub returns-then-above-gt63 : goal.returns-then-above-gt63
 returns-then-above-gt63 c = search three_none
 
-pub returns-then-is_second : goal.returns-then-is_second
-returns-then-is_second c = search three_yes
-
 pub returns : goal.returns
-returns c = search three_second
+returns c = search three_if

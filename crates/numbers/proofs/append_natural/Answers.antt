@@ -2,8 +2,8 @@
 use Rattle.numbers.proofs.Appending.{appends_written, appends_counted}
 use Rattle.numbers.proofs.append_natural.Goals as goal
 
-pub returns-in-Length : goal.returns-in-Length
-returns-in-Length c = search appends_written
+pub returns-in-Ok : goal.returns-in-Ok
+returns-in-Ok c = search appends_written
 
-pub returns-in-Short : goal.returns-in-Short
-returns-in-Short c = search appends_counted
+pub returns-in-Err : goal.returns-in-Err
+returns-in-Err c = search appends_counted

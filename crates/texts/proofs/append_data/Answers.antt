@@ -1,13 +1,19 @@
--- `texts::append_data` meets its contract: the length, and then the bytes. Assumes nothing.
-use mathlib.Core.Path.{refl, ap}
-use native.Mathlib.Omega.{arith}
+-- `texts::append_data` meets its contract. Assumes nothing.
+use Rattle.std.proofs.Common.{arith}
 use Rattle.format.specs.Count.{adds_seq, adds_eq}
-use Rattle.leb128.specs.Leb.{uleb}
-use Rattle.texts.specs.Text.{past_small}
+use Rattle.texts.specs.Text.{past_in, long_in, slice_past, past_past}
+use Rattle.texts.proofs.Checks.{adds_refusal}
 use Rattle.texts.proofs.append_data.Goals as goal
 
-pub returns : goal.returns
-returns c =
+pub returns-in-Some : goal.returns-in-Some
+returns-in-Some c =
     let a = c.args in
-    let n = adds_eq (ap uleb c.held.ensures) refl c.append_u32-t.ensures in
-    adds_eq refl (omega (arith, past_small a.text.now a.at)) (adds_seq n c.append_slice.ensures)
+    let (h, e) = c.in-Some.ensures in
+    adds_eq (rw (e, long_in a.text.now a.at h)) (omega (arith, past_in a.text.now a.at h)) (adds_seq c.append_u32-t.ensures c.append_all.ensures)
+
+pub returns-in-None : goal.returns-in-None
+returns-in-None c =
+    let a = c.args in
+    let h = c.in-None.ensures in
+    adds_eq (rw (slice_past a.text.now a.at h)) (omega (arith, past_past a.text.now a.at h))
+    (adds_seq c.append_u32.ensures (adds_refusal 3 c.append_u32.new.out c.append_u32.result (omega arith) c.lower.ensures))

@@ -5,8 +5,8 @@ use Rattle.thriftbell.proofs.read_tried.Goals as goal
 pub returns-in_default : goal.returns-in_default
 returns-in_default c = search item_missing
 
-pub returns-then-n-gt4096 : goal.returns-then-n-gt4096
-returns-then-n-gt4096 c = search many_there
+pub returns-then-n-gt-WORDS_MOST : goal.returns-then-n-gt-WORDS_MOST
+returns-then-n-gt-WORDS_MOST c = search many_there
 
 pub returns-then-out-n : goal.returns-then-out-n
 returns-then-out-n c = search short_there

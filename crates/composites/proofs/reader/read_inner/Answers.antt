@@ -1,24 +1,16 @@
 -- `composites::reader::read_inner` meets its contract: by its kind. Assumes nothing.
-use Rattle.format.specs.Dispatch.{opened}
-use Rattle.format.specs.Walk.{nothing_left, nothing_there}
 use Rattle.composites.specs.Composite.{func, array, struct, cont}
-use Rattle.composites.proofs.Inner.{kind_read, no_kind_byte}
+use Rattle.composites.proofs.Inner.{kind_reads}
 use Rattle.composites.proofs.reader.read_inner.Goals as goal
 
-pub returns-then-b-at : goal.returns-then-b-at
-returns-then-b-at c = search nothing_left
+pub returns-in-96 : goal.returns-in-96
+returns-in-96 c = let x = c.in_ok-get.ensures.lookup.3 in search (kind_reads func, x.0, x.1 0)
 
-pub returns-then-k-eq96 : goal.returns-then-k-eq96
-returns-then-k-eq96 c = search (opened (kind_read func))
+pub returns-in-94 : goal.returns-in-94
+returns-in-94 c = let x = c.in_ok-get.ensures.lookup.3 in search (kind_reads array, x.0, x.1 0)
 
-pub returns-then-k-eq94 : goal.returns-then-k-eq94
-returns-then-k-eq94 c = search (opened (kind_read array))
+pub returns-in-95 : goal.returns-in-95
+returns-in-95 c = let x = c.in_ok-get.ensures.lookup.3 in search (kind_reads struct, x.0, x.1 0)
 
-pub returns-then-k-eq95 : goal.returns-then-k-eq95
-returns-then-k-eq95 c = search (opened (kind_read struct))
-
-pub returns-then-k-eq93 : goal.returns-then-k-eq93
-returns-then-k-eq93 c = search (opened (kind_read cont))
-
-pub returns : goal.returns
-returns c = search (nothing_there, no_kind_byte)
+pub returns-in-93 : goal.returns-in-93
+returns-in-93 c = let x = c.in_ok-get.ensures.lookup.3 in search (kind_reads cont, x.0, x.1 0)

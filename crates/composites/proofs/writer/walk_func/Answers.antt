@@ -1,10 +1,8 @@
 -- `composites::writer::walk_func` meets its contract: the parameters, and then the results. Assumes nothing.
-use Rattle.format.specs.Sequence.{first_missing, second_follows}
+use Rattle.format.proofs.Handing.{took}
+use Rattle.format.specs.Sequence.{second_follows}
 use Rattle.composites.proofs.Inner.{func_walk}
 use Rattle.composites.proofs.writer.walk_func.Goals as goal
 
-pub returns-in_default : goal.returns-in_default
-returns-in_default c = search (first_missing func_walk)
-
 pub returns : goal.returns
-returns c = search (second_follows func_walk)
+returns c = search (took, second_follows func_walk)

@@ -1,24 +1,16 @@
 -- `composites::writer::walk_inner` meets its contract: by its kind. Assumes nothing.
-use Rattle.format.specs.Dispatch.{opened}
-use Rattle.format.specs.Walk.{nothing_left, nothing_there}
 use Rattle.composites.specs.Composite.{func, array, struct, cont}
-use Rattle.composites.proofs.Inner.{kind_walk, no_kind_word}
+use Rattle.composites.proofs.Inner.{kind_walks}
 use Rattle.composites.proofs.writer.walk_inner.Goals as goal
 
-pub returns-then-words-at : goal.returns-then-words-at
-returns-then-words-at c = search nothing_left
+pub returns-in-0 : goal.returns-in-0
+returns-in-0 c = let x = c.in_ok-get.ensures.lookup.3 in search (kind_walks func, x.0, x.1 0)
 
-pub returns-then-k-eq0 : goal.returns-then-k-eq0
-returns-then-k-eq0 c = search (opened (kind_walk func))
+pub returns-in-1 : goal.returns-in-1
+returns-in-1 c = let x = c.in_ok-get.ensures.lookup.3 in search (kind_walks array, x.0, x.1 0)
 
-pub returns-then-k-eq1 : goal.returns-then-k-eq1
-returns-then-k-eq1 c = search (opened (kind_walk array))
+pub returns-in-2 : goal.returns-in-2
+returns-in-2 c = let x = c.in_ok-get.ensures.lookup.3 in search (kind_walks struct, x.0, x.1 0)
 
-pub returns-then-k-eq2 : goal.returns-then-k-eq2
-returns-then-k-eq2 c = search (opened (kind_walk struct))
-
-pub returns-then-k-eq3 : goal.returns-then-k-eq3
-returns-then-k-eq3 c = search (opened (kind_walk cont))
-
-pub returns : goal.returns
-returns c = search (nothing_there, no_kind_word)
+pub returns-in-3 : goal.returns-in-3
+returns-in-3 c = let x = c.in_ok-get.ensures.lookup.3 in search (kind_walks cont, x.0, x.1 0)

@@ -1,12 +1,10 @@
 -- `data::reader::read_active` meets its contract: a memory and an expression. Assumes nothing.
+use Rattle.format.proofs.Handing.{took}
 use Rattle.words.specs.Words.{word}
 use Rattle.parts.specs.Text.{expression}
-use Rattle.parts.specs.Reading.{textless_missing, follows_textless}
+use Rattle.parts.specs.Reading.{follows_textless}
 use Rattle.data.specs.Target.{memory_index_bytes, index_agree}
 use Rattle.data.proofs.reader.read_active.Goals as goal
 
-pub returns-in_default : goal.returns-in_default
-returns-in_default c = search (textless_missing word memory_index_bytes index_agree expression)
-
 pub returns : goal.returns
-returns c = search (follows_textless word memory_index_bytes index_agree expression)
+returns c = search (took, follows_textless word memory_index_bytes index_agree expression)

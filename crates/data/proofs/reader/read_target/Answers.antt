@@ -3,11 +3,11 @@ use Rattle.format.specs.Walk.{nothing_left}
 use Rattle.data.proofs.Targets.{passive_reads, active_reads}
 use Rattle.data.proofs.reader.read_target.Goals as goal
 
-pub returns-then-b-at : goal.returns-then-b-at
-returns-then-b-at c = search nothing_left
+pub returns-in_err-get : goal.returns-in_err-get
+returns-in_err-get c = rw c.from_residual.ensures (search (nothing_left, c.in_err-get.ensures.lookup.3))
 
-pub returns-then-b-at-eq1 : goal.returns-then-b-at-eq1
-returns-then-b-at-eq1 c = search passive_reads
+pub returns-then-branch-eq1 : goal.returns-then-branch-eq1
+returns-then-branch-eq1 c = let x = c.in_ok-get.ensures.lookup.3 in search (passive_reads, x.0, x.1 0)
 
 pub returns : goal.returns
-returns c = search active_reads
+returns c = let x = c.in_ok-get.ensures.lookup.3 in search (active_reads, x.0, x.1 0)

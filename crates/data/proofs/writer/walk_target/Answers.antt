@@ -1,19 +1,6 @@
--- `data::writer::walk_target` meets its contract: by the mode. Assumes nothing.
-use Rattle.format.specs.Walk.{nothing_left}
-use Rattle.data.proofs.Targets.{few_words, passive_writes, active_writes, no_mode}
+-- `data::writer::walk_target` meets its contract: the words of an active segment. Assumes nothing.
+use Rattle.data.proofs.Targets.{active_there}
 use Rattle.data.proofs.writer.walk_target.Goals as goal
 
-pub returns-then-words-at : goal.returns-then-words-at
-returns-then-words-at c = search nothing_left
-
-pub returns-then-words-at-lt4 : goal.returns-then-words-at-lt4
-returns-then-words-at-lt4 c = search few_words
-
-pub returns-in-0 : goal.returns-in-0
-returns-in-0 c = search passive_writes
-
 pub returns-in-1 : goal.returns-in-1
-returns-in-1 c = search active_writes
-
-pub returns-in_default : goal.returns-in_default
-returns-in_default c = search no_mode
+returns-in-1 c = let (_, _, from, long) = c.in_ok-get.ensures.lookup.0 in search (active_there, from, long)

@@ -1,23 +1,9 @@
--- `elements::reader::read_exprs` meets its contract: the count, and then so many expressions. Assumes nothing.
-use Rattle.leb128.proofs.Formats.{u32}
-use Rattle.numbers.specs.Decoded.{number_place}
+-- `elements::reader::read_exprs` meets its contract: each call of its closure reads an expression. Assumes nothing.
+use Rattle.std.proofs.Common.{rules}
 use Rattle.parts.specs.Text.{expression}
-use Rattle.parts.specs.ListWalks.{list_not_read, list_too_large, list_reads}
+use Rattle.parts.specs.ListWalks.{list_read_by}
 use Rattle.elements.proofs.Lists.{byte_each}
-use borrow.Author.Rules.{rules}
 use Rattle.elements.proofs.reader.read_exprs.Goals as goal
 
-pub returns-in_default : goal.returns-in_default
-returns-in_default c = search (list_not_read expression byte_each)
-
-pub overflow_sub-b : goal.overflow_sub-b
-overflow_sub-b c = search (number_place u32)
-
-pub returns-then-b-p : goal.returns-then-b-p
-returns-then-b-p c = search (list_too_large expression byte_each)
-
-pub read_members-requires : goal.read_members-requires
-read_members-requires c = (search (number_place u32), search rules)
-
 pub returns : goal.returns
-returns c = search (list_reads expression byte_each)
+returns c = list_read_by expression byte_each c.read_list.ensures (λ p lent s left r y. search rules)

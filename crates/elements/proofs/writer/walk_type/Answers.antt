@@ -16,8 +16,8 @@ returns-then-words-at c = search nothing_left
 pub returns-then-words-at-lt2 : goal.returns-then-words-at-lt2
 returns-then-words-at-lt2 c = search (one_left ref_words (λ r ok. omega arith))
 
-pub returns-in-Ref : goal.returns-in-Ref
-returns-in-Ref c = search type_unsaid
+pub returns-in-Some : goal.returns-in-Some
+returns-in-Some c = search type_unsaid
 
-pub returns-in-No : goal.returns-in-No
-returns-in-No c = search ref_words_missing
+pub returns-in-None : goal.returns-in-None
+returns-in-None c = search ref_words_missing

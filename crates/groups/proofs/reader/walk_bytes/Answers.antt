@@ -3,11 +3,11 @@ use Rattle.format.specs.Walk.{nothing_left}
 use Rattle.groups.proofs.Groups.{group_reads, single_reads}
 use Rattle.groups.proofs.reader.walk_bytes.Goals as goal
 
-pub returns-then-b-at : goal.returns-then-b-at
-returns-then-b-at c = search nothing_left
+pub returns-in_err-get : goal.returns-in_err-get
+returns-in_err-get c = rw c.from_residual.ensures (search (nothing_left, c.in_err-get.ensures.lookup.3))
 
-pub returns-then-b-at-eq78 : goal.returns-then-b-at-eq78
-returns-then-b-at-eq78 c = search group_reads
+pub returns-then-branch-eq78 : goal.returns-then-branch-eq78
+returns-then-branch-eq78 c = let x = c.in_ok-get.ensures.lookup.3 in search (group_reads, x.0, x.1 0)
 
 pub returns : goal.returns
-returns c = search single_reads
+returns c = let x = c.in_ok-get.ensures.lookup.3 in search (single_reads, x.0, x.1 0)

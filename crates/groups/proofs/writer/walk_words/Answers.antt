@@ -1,22 +1,10 @@
 -- `groups::writer::walk_words` meets its contract: by the group flag. Assumes nothing.
-use Rattle.format.specs.Walk.{nothing_left}
-use Rattle.groups.proofs.Groups.{flag_alone, group_writes, no_flag, single_count, single_writes}
+use Rattle.words.proofs.Lent.{two_of}
+use Rattle.groups.proofs.Groups.{group_writes, single_writes}
 use Rattle.groups.proofs.writer.walk_words.Goals as goal
 
-pub returns-then-words-at : goal.returns-then-words-at
-returns-then-words-at c t = search nothing_left
+pub returns-in-1 : goal.returns-in-1
+returns-in-1 c t = let h = c.in_ok-get.ensures.lookup.0 in search (group_writes (two_of h.0 h.2 h.3 c.in-1.len_at_least))
 
-pub returns-then-words-at-lt2 : goal.returns-then-words-at-lt2
-returns-then-words-at-lt2 c t = search flag_alone
-
-pub returns-then-f-eq1 : goal.returns-then-f-eq1
-returns-then-f-eq1 c t = search group_writes
-
-pub returns-then-f-ne0 : goal.returns-then-f-ne0
-returns-then-f-ne0 c t = search no_flag
-
-pub returns-then-words-at-ne1 : goal.returns-then-words-at-ne1
-returns-then-words-at-ne1 c t = search single_count
-
-pub returns : goal.returns
-returns c t = search single_writes
+pub returns-in-0 : goal.returns-in-0
+returns-in-0 c t = let h = c.in_ok-get.ensures.lookup.0 in search (single_writes (two_of h.0 h.2 h.3 c.in-0.len_at_least))

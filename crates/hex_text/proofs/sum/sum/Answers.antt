@@ -1,11 +1,13 @@
--- What the check leaves of `hex_text::sum::sum`.
-use Rattle.std.proofs.Common.{ap, ◌∙◌, arith, take_all}
-use Rattle.hex_text.specs.Sum.{sum_of, sum_more}
+-- `hex_text::sum::sum` meets its contract: each byte is added, and wraps. Assumes nothing.
+use Rattle.std.proofs.Common.{◌≡◌, ℕ, ◌+◌, ◌%◌, ◌^◌, ◌<◌, List, [], ◌∷◌, ◌∙◌, arith, rules, fold}
+use Rattle.hex_text.specs.Sum.{total}
 use Rattle.hex_text.proofs.sum.sum.Goals as goal
 
-pub loop-i-preserved : goal.loop-i-preserved
-loop-i-preserved c =
-    (omega arith, omega (arith, c.wrapping_add_u8-s.ensures, c.loop-i.invariant.1, sum_more c.args.bytes.now c.loop-i.i c.loop-i-test.true))
+added : (s : ℕ) (b : List ℕ) → s < 256 → fold (λ s x. (s + x) % 2 ^ 8) s b ≡ (s + total b) % 256
+added s [] h = omega arith
+added s (x ∷ b) h = added ((s + x) % 256) b (omega arith) ∙ omega arith
 
 pub returns : goal.returns
-returns c = c.loop-i.invariant.1 ∙ ap sum_of (take_all _ _ c.loop-i-test.false)
+returns c =
+    let e : c.fold.result ≡ fold (λ s x. (s + x) % 2 ^ 8) 0 c.args.bytes.now = search rules in
+    omega (arith, added 0 c.args.bytes.now (omega arith))

@@ -1,32 +1,22 @@
 -- `imports::reader::read_entity` meets its contract: each sort by its own walk. Assumes nothing.
-use Rattle.format.specs.Walk.{nothing_left}
 use Rattle.imports.specs.Entity.{function, of_table, of_memory, of_global, of_tag, exact}
-use Rattle.imports.proofs.Entities.{byte_fits, sort_reads, no_sort_reads}
+use Rattle.imports.proofs.Entities.{sort_reads}
 use Rattle.imports.proofs.reader.read_entity.Goals as goal
 
-pub returns-then-b-at : goal.returns-then-b-at
-returns-then-b-at c = search nothing_left
-
-pub overflow_cast-sort : goal.overflow_cast-sort
-overflow_cast-sort c = search byte_fits
-
 pub returns-in-0 : goal.returns-in-0
-returns-in-0 c = search (sort_reads function)
+returns-in-0 c = let x = c.in_ok-sort.ensures.lookup.3 in search (sort_reads function, x.0, x.1 0)
 
 pub returns-in-1 : goal.returns-in-1
-returns-in-1 c = search (sort_reads of_table)
+returns-in-1 c = let x = c.in_ok-sort.ensures.lookup.3 in search (sort_reads of_table, x.0, x.1 0)
 
 pub returns-in-2 : goal.returns-in-2
-returns-in-2 c = search (sort_reads of_memory)
+returns-in-2 c = let x = c.in_ok-sort.ensures.lookup.3 in search (sort_reads of_memory, x.0, x.1 0)
 
 pub returns-in-3 : goal.returns-in-3
-returns-in-3 c = search (sort_reads of_global)
+returns-in-3 c = let x = c.in_ok-sort.ensures.lookup.3 in search (sort_reads of_global, x.0, x.1 0)
 
 pub returns-in-4 : goal.returns-in-4
-returns-in-4 c = search (sort_reads of_tag)
+returns-in-4 c = let x = c.in_ok-sort.ensures.lookup.3 in search (sort_reads of_tag, x.0, x.1 0)
 
 pub returns-in-32 : goal.returns-in-32
-returns-in-32 c = search (sort_reads exact)
-
-pub returns-in_default : goal.returns-in_default
-returns-in_default c = search no_sort_reads
+returns-in-32 c = let x = c.in_ok-sort.ensures.lookup.3 in search (sort_reads exact, x.0, x.1 0)

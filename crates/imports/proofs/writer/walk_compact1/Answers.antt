@@ -1,8 +1,7 @@
 -- `imports::writer::walk_compact1` meets its contract: two bytes, and a list. Assumes nothing.
 use Rattle.parts.specs.Listed.{listed}
 use Rattle.parts.specs.Writing.{behind_two}
-use Rattle.imports.specs.Forms.{member}
-use Rattle.imports.specs.declared.Member.TheVariants.{Import}
+use Rattle.imports.specs.Forms.{member, Import}
 use Rattle.imports.proofs.writer.walk_compact1.Goals as goal
 
 pub returns : goal.returns

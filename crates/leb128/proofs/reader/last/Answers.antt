@@ -5,8 +5,8 @@ use Rattle.leb128.proofs.reader.last.Goals as goal
 pub returns-then-top-value_bits-ne0 : goal.returns-then-top-value_bits-ne0
 returns-then-top-value_bits-ne0 c = search over_width
 
-pub overflow_cast-a : goal.overflow_cast-a
-overflow_cast-a c = search top_fits
+pub overflow_cast-magnitude : goal.overflow_cast-magnitude
+overflow_cast-magnitude c = search top_fits
 
 pub shortest-requires : goal.shortest-requires
 shortest-requires c = search part_topped

@@ -1,17 +1,8 @@
--- `lists::writer::walk_list` meets its contract: the count, and then so many members. Assumes nothing.
-use Rattle.format.specs.Walk.{nothing_left}
-use Rattle.words.specs.WordWalks.{word_fits}
-use Rattle.lists.proofs.Members.{more_than_words, members_behind}
+-- `lists::writer::walk_list` meets its contract: each call of its closure writes a member. Assumes nothing.
+use Rattle.std.proofs.Common.{rules}
+use Rattle.format.specs.Repeats.{calls_list}
+use Rattle.lists.proofs.Members.{list_of_words}
 use Rattle.lists.proofs.writer.walk_list.Goals as goal
 
-pub returns-then-words-at : goal.returns-then-words-at
-returns-then-words-at c = search nothing_left
-
-pub overflow_cast-n : goal.overflow_cast-n
-overflow_cast-n c = search word_fits
-
-pub returns-then-words-at-2 : goal.returns-then-words-at-2
-returns-then-words-at-2 c = search more_than_words
-
 pub returns : goal.returns
-returns c = search members_behind
+returns c = calls_list (list_of_words c.args.m) c.walk_list.ensures (λ p lent s left r h y. search rules)

@@ -1,9 +1,7 @@
 -- `modes::writer::walk_table_offset` meets its contract: the table, and the offset. Assumes nothing.
-use Rattle.modes.proofs.Places.{table_not_there, table_offset_writes}
+use Rattle.format.proofs.Handing.{took}
+use Rattle.modes.proofs.Places.{table_offset_writes}
 use Rattle.modes.proofs.writer.walk_table_offset.Goals as goal
 
-pub returns-in_default : goal.returns-in_default
-returns-in_default c = search table_not_there
-
 pub returns : goal.returns
-returns c = search table_offset_writes
+returns c = search (took, table_offset_writes)

@@ -2,11 +2,11 @@
 use Rattle.prefixes.proofs.Bytes.{some_empty, some-none, some_walk}
 use Rattle.prefixes.proofs.reader.read_some.Goals as goal
 
-pub returns-then-b-at : goal.returns-then-b-at
-returns-then-b-at c = search some_empty
+pub returns-in_err-get : goal.returns-in_err-get
+returns-in_err-get c = rw c.from_residual.ensures (search (some_empty, c.in_err-get.ensures.lookup.3))
 
-pub returns-then-b-at-eq0 : goal.returns-then-b-at-eq0
-returns-then-b-at-eq0 c = search some-none
+pub returns-then-branch-eq0 : goal.returns-then-branch-eq0
+returns-then-branch-eq0 c = let x = c.in_ok-get.ensures.lookup.3 in search (some-none, x.0, x.1 0)
 
 pub returns : goal.returns
-returns c = search some_walk
+returns c = let x = c.in_ok-get.ensures.lookup.3 in search (some_walk, x.0, x.1 0)

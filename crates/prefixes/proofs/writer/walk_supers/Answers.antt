@@ -1,22 +1,13 @@
 -- `prefixes::writer::walk_supers` meets its contract: by the flag, and by the count. Assumes nothing.
-use Rattle.format.specs.Dispatch.{opened}
-use Rattle.prefixes.proofs.Words.{supers_empty, supers_short, supers_flag, open_list, no_supers, final_list}
+use Rattle.words.proofs.Lent.{two_of}
+use Rattle.prefixes.proofs.Words.{open_supers, no_supers, final_supers}
 use Rattle.prefixes.proofs.writer.walk_supers.Goals as goal
 
-pub returns-then-words-at : goal.returns-then-words-at
-returns-then-words-at c = search supers_empty
+pub returns-in-0 : goal.returns-in-0
+returns-in-0 c = let h = c.in_ok-get.ensures.lookup.0 in search (open_supers (two_of h.0 h.2 h.3 c.in-0.len_at_least))
 
-pub returns-then-words-at-lt2 : goal.returns-then-words-at-lt2
-returns-then-words-at-lt2 c = search supers_short
+pub returns-in-1 : goal.returns-in-1
+returns-in-1 c = let h = c.in_ok-get.ensures.lookup.0 in search (no_supers (two_of h.0 h.2 h.3 c.in-1.len_at_least))
 
-pub returns-then-f-eq0 : goal.returns-then-f-eq0
-returns-then-f-eq0 c = search (opened open_list)
-
-pub returns-then-f-ne1 : goal.returns-then-f-ne1
-returns-then-f-ne1 c = search supers_flag
-
-pub returns-then-words-at-eq0 : goal.returns-then-words-at-eq0
-returns-then-words-at-eq0 c = search no_supers
-
-pub returns : goal.returns
-returns c = search final_list
+pub returns-in-1-2 : goal.returns-in-1-2
+returns-in-1-2 c = let h = c.in_ok-get.ensures.lookup.0 in search (final_supers (two_of h.0 h.2 h.3 c.in-1-2.len_at_least))

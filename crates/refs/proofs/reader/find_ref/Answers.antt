@@ -1,15 +1,9 @@
 -- `refs::reader::find_ref` meets its contract. Assumes nothing.
-use Rattle.refs.proofs.Bytes.{no_ref, non_null_found, null_found, alone_found}
+use Rattle.refs.proofs.Bytes.{non_null_found, alone_found}
 use Rattle.refs.proofs.reader.find_ref.Goals as goal
 
-pub returns-then-b-at : goal.returns-then-b-at
-returns-then-b-at c = search no_ref
+pub returns-in-100 : goal.returns-in-100
+returns-in-100 c = let x = c.in_ok-get.ensures.lookup.3 in search (non_null_found, x.0, x.1 0)
 
-pub returns-then-x-eq100 : goal.returns-then-x-eq100
-returns-then-x-eq100 c = search non_null_found
-
-pub returns-then-x-eq99 : goal.returns-then-x-eq99
-returns-then-x-eq99 c = search null_found
-
-pub returns : goal.returns
-returns c = search alone_found
+pub returns-in_default : goal.returns-in_default
+returns-in_default c = let x = c.in_ok-get.ensures.lookup.3 in search (alone_found, x.0, x.1 0)

@@ -3,11 +3,8 @@ use Rattle.format.specs.Sequence.{first_missing, second_follows}
 use Rattle.subtypes.proofs.Parts.{supers_walk, shared_walk}
 use Rattle.subtypes.proofs.writer.walk_sub.Goals as goal
 
-pub returns-in_default : goal.returns-in_default
-returns-in_default c = search (first_missing supers_walk)
-
-pub returns-in_default-walk_shared : goal.returns-in_default-walk_shared
-returns-in_default-walk_shared c = search (second_follows supers_walk, first_missing shared_walk)
+pub returns-in_err-q : goal.returns-in_err-q
+returns-in_err-q c = rw c.from_residual-in_err-q.ensures (search (c.in_ok-p.was, c.in_err-q.was, second_follows supers_walk, first_missing shared_walk))
 
 pub returns : goal.returns
-returns c = search (second_follows supers_walk, second_follows shared_walk)
+returns c = search (c.in_ok-p.was, c.in_ok-q.was, second_follows supers_walk, second_follows shared_walk)

@@ -1,10 +1,8 @@
 -- `tables::writer::walk_global_type` meets its contract: a value type, and whether it is mutable. Assumes nothing.
-use Rattle.format.specs.Sequence.{first_missing, second_follows}
+use Rattle.format.proofs.Handing.{took}
+use Rattle.format.specs.Sequence.{second_follows}
 use Rattle.tables.proofs.Tables.{global_walk}
 use Rattle.tables.proofs.writer.walk_global_type.Goals as goal
 
-pub returns-in_default : goal.returns-in_default
-returns-in_default c = search (first_missing global_walk)
-
 pub returns : goal.returns
-returns c = search (second_follows global_walk)
+returns c = search (took, second_follows global_walk)

@@ -1,10 +1,8 @@
 -- `tables::writer::walk_table_type` meets its contract: a reference type and limits. Assumes nothing.
-use Rattle.format.specs.Sequence.{first_missing, second_follows}
+use Rattle.format.proofs.Handing.{took}
+use Rattle.format.specs.Sequence.{second_follows}
 use Rattle.tables.proofs.Tables.{table_walk}
 use Rattle.tables.proofs.writer.walk_table_type.Goals as goal
 
-pub returns-in_default : goal.returns-in_default
-returns-in_default c = search (first_missing table_walk)
-
 pub returns : goal.returns
-returns c = search (second_follows table_walk)
+returns c = search (took, second_follows table_walk)

@@ -1,16 +1,9 @@
 -- `tables::writer::walk_words` meets its contract: by the init flag. Assumes nothing.
-use Rattle.format.specs.Walk.{nothing_left}
-use Rattle.tables.proofs.Tables.{bare_writes, init_writes, no_form}
+use Rattle.tables.proofs.Tables.{bare_writes, init_writes}
 use Rattle.tables.proofs.writer.walk_words.Goals as goal
 
-pub returns-then-words-at : goal.returns-then-words-at
-returns-then-words-at c = search nothing_left
-
 pub returns-in-0 : goal.returns-in-0
-returns-in-0 c = search bare_writes
+returns-in-0 c = let x = c.in_ok-get.ensures.lookup.3 in search (bare_writes, x.0, x.1 0)
 
 pub returns-in-1 : goal.returns-in-1
-returns-in-1 c = search init_writes
-
-pub returns-in_default : goal.returns-in_default
-returns-in_default c = search no_form
+returns-in-1 c = let x = c.in_ok-get.ensures.lookup.3 in search (init_writes, x.0, x.1 0)

@@ -1,42 +1,35 @@
--- `texts::find_expr` meets its contract. Assumes nothing.
--- the expression's length
-use mathlib.Core.Path.{◌≡◌, sym, ap, ◌∙◌}
-use Prim.Native.Nat.{◌≤◌}
-use native.Mathlib.Omega.{arith}
-use lib.ListN.{length, take, drop, length-take, length-drop, length-append}
+-- `texts::reader::find_expr` meets its contract: the bytes from a place on, and where an expression ends in them. Assumes nothing.
+use Rattle.std.specs.Prelude.{◌≡◌, ◌≤◌, List, ℕ, Option, Some, length, take, drop, slice_range}
+use Rattle.std.proofs.Common.{sym, ap, ◌∙◌, arith, length-take, length-drop, length-append}
 use Rattle.format.specs.Read.{drop_end}
 use Rattle.format.specs.Write.{rest_lent}
 use Rattle.exprs.specs.Scan.{scan, expr_end}
 use Rattle.exprs.specs.Laws.{sound}
-use Rattle.exprs.specs.declared.ExprEnd.TheVariants as ends
 use Rattle.texts.proofs.reader.find_expr.Goals as goal
 
-pub returns-then-bytes-at : goal.returns-then-bytes-at
+-- v is the bytes from the place on
+ended : (b : List ℕ) (at : ℕ) {v : List ℕ} {n : ℕ} {r : Option ℕ} → v ≡ slice_range b at (length b) → r ≡ expr_end v → r ≡ Some n
+    → (expr_end (drop at b) ≡ Some n) × (n ≤ length (drop at b))
+ended b at {n = n} from d i =
+    let e : expr_end (drop at b) ≡ Some n = ap expr_end (sym (from ∙ rest_lent at b)) ∙ sym d ∙ i in
+    let f = sound (drop at b) n e in
+    (e, omega (arith, f.long, ap length f.split ∙ length-append f.bytes f.rest))
+
+pub returns-in_err-get : goal.returns-in_err-get
 unfolding scan
-returns-then-bytes-at c = let a = c.args in rw (drop_end a.bytes.now a.at (omega (arith, c.if-bytes-at.true)))
-
-pub returns-in_default : goal.returns-in_default
-returns-in_default c =
-    let a = c.args in
-    let e : expr_end (drop a.at a.bytes.now) ≡ ends.Nothing = ap expr_end (sym (rest_lent a.at a.bytes.now)) ∙ sym c.expr_end.ensures ∙ c.in_default.is in
-    rw e
-
-pub overflow_cast-result : goal.overflow_cast-result
-overflow_cast-result c = omega (arith, c.if-bytes-at.false, c.requires)
+returns-in_err-get c = let a = c.args in let h = c.in_err-get.ensures.lookup.0 in rw (c.from_residual.ensures, drop_end a.bytes.now a.at (omega arith))
 
 pub overflow_cast-result-2 : goal.overflow_cast-result-2
-overflow_cast-result-2 c = let ended : (let a = c.args in (expr_end (drop a.at a.bytes.now) ≡ ends.At c.in-At.n) × (c.in-At.n ≤ length (drop a.at a.bytes.now))) = let a = c.args in
-    let e : expr_end (drop a.at a.bytes.now) ≡ ends.At c.in-At.n = ap expr_end (sym (rest_lent a.at a.bytes.now)) ∙ sym c.expr_end.ensures ∙ c.in-At.is in
-    let f = sound (drop a.at a.bytes.now) c.in-At.n e in
-    (e, omega (arith, f.long, ap length f.split ∙ length-append f.bytes f.rest)) in omega (arith, ended.1, length-drop c.args.at c.args.bytes.now, c.requires)
+overflow_cast-result-2 c =
+    let (_, _, from, long) = c.in_ok-get.ensures.lookup.0 in
+    let e = ended c.args.bytes.now c.args.at from c.expr_end.ensures c.in_ok-n.was in
+    omega (arith, e.1, length-drop c.args.at c.args.bytes.now, c.requires)
 
 pub returns : goal.returns
-returns c = let ended : (let a = c.args in (expr_end (drop a.at a.bytes.now) ≡ ends.At c.in-At.n) × (c.in-At.n ≤ length (drop a.at a.bytes.now))) = let a = c.args in
-    let e : expr_end (drop a.at a.bytes.now) ≡ ends.At c.in-At.n = ap expr_end (sym (rest_lent a.at a.bytes.now)) ∙ sym c.expr_end.ensures ∙ c.in-At.is in
-    let f = sound (drop a.at a.bytes.now) c.in-At.n e in
-    (e, omega (arith, f.long, ap length f.split ∙ length-append f.bytes f.rest)) in
-    let n = c.in-At.n in
+returns c =
+    let (_, _, from, long) = c.in_ok-get.ensures.lookup.0 in
+    let n = c.in_ok-n.n in
     let b = drop c.args.at c.args.bytes.now in
-    let e = ended in
-    let long : length (take n b) ≡ n = simp length-take (omega (arith, e.1)) in
-    rw (e.0, long)
+    let e = ended c.args.bytes.now c.args.at from c.expr_end.ensures c.in_ok-n.was in
+    let size : length (take n b) ≡ n = simp length-take (omega (arith, e.1)) in
+    rw (e.0, size)

@@ -1,20 +1,12 @@
 -- `words::writer::walk_unused` meets its contract. Assumes nothing.
+use native.Mathlib.Omega.{arith}
 use Rattle.format.specs.Count.{adds_nil}
-use Rattle.format.specs.Walk.{nothing_left}
-use Rattle.words.specs.TwoWords.{unused_short, first_used, second_used, both_unused}
+use Rattle.words.specs.TwoWords.{both_unused}
+use Rattle.words.proofs.Lent.{two_of}
 use Rattle.words.proofs.writer.walk_unused.Goals as goal
 
-pub returns-then-words-at : goal.returns-then-words-at
-returns-then-words-at c = search nothing_left
-
-pub returns-then-words-at-lt2 : goal.returns-then-words-at-lt2
-returns-then-words-at-lt2 c = search unused_short
-
-pub returns-then-words-at-ne0 : goal.returns-then-words-at-ne0
-returns-then-words-at-ne0 c = search first_used
-
-pub returns-then-words-at-ne0-2 : goal.returns-then-words-at-ne0-2
-returns-then-words-at-ne0-2 c = search second_used
-
-pub returns : goal.returns
-returns c = search (both_unused, adds_nil)
+pub returns-in-0 : goal.returns-in-0
+returns-in-0 c =
+    let h = c.in_ok-get.ensures.lookup.0 in
+    let t = two_of h.0 h.2 h.3 c.in-0.len_at_least in
+    λ out. both_unused (omega arith) (omega arith) (omega arith) (omega arith) (adds_nil out c.args.s)

@@ -1,0 +1,6 @@
+-- `format::append_all` meets its contract: the leaf was lent the part from the current end on. Assumes nothing.
+use Rattle.format.specs.Count.{adds_lent}
+use Rattle.format.proofs.append_all.Goals as goal
+
+pub returns : goal.returns
+returns g c = search adds_lent

@@ -1,6 +1,0 @@
--- `format::append_byte` meets its contract: the leaf was lent the part from the current end on. Assumes nothing.
-use Rattle.format.specs.Count.{adds_lent}
-use Rattle.format.proofs.append_byte.Goals as goal
-
-pub returns : goal.returns
-returns c = search adds_lent
