@@ -1,8 +1,10 @@
 -- The elements of a segment in words: the kind, and functions, or a type and expressions. Assumes nothing.
-use mathlib.Core.Path.{◌≡◌, refl, sym, subst}
-use mathlib.Core.Bool.{Bool, true, false, not, cond}
+use mathlib.Core.Path.{◌≡◌, refl, sym, ap, subst, ◌∙◌}
+use mathlib.Core.Bool.{Bool, true, false, cond}
 use mathlib.Core.List.{List, [], ◌∷◌}
-use Prim.Native.Nat.{ℕ, ◌+◌, ◌-◌, ◌<◌, ◌≤◌, min}
+use Prim.Native.Nat.{ℕ, ◌+◌, ◌<◌, ◌≤◌, min}
+use native.Mathlib.Omega.{arith}
+use Rattle.std.specs.Prelude.{slice_range}
 use lib.Dec.{eqb}
 use lib.ListN.{length, get_or, drop}
 use Rattle.format.specs.Parsed.{Parsed, fail, bind, map, map_same}
@@ -10,9 +12,9 @@ use Rattle.format.specs.Basic.{bit, flag, tag, lit}
 use Rattle.format.specs.Format.{Format}
 use Rattle.format.specs.Count.{Appends, no_refusal, silent, adds_nil, adds_seq}
 use Rattle.format.specs.Lists.{many}
-use Rattle.format.specs.Read.{one_read, none_read}
+use Rattle.format.specs.Read.{one_read}
 use Rattle.format.specs.Sequence.{Joins, leaves, pair_plain, dep_known, first_missing, second_follows}
-use Rattle.format.specs.Walk.{Walks, nothing_there, walks_as}
+use Rattle.format.specs.Walk.{Walks, walks_as}
 use Rattle.format.specs.declared.Done.{Done}
 use Rattle.format.specs.Walk.{Walk}
 use Rattle.std.specs.Prelude.{None, Some}
@@ -21,34 +23,26 @@ use Rattle.words.specs.WordWalks.{AreWords}
 use Rattle.words.specs.Words.{word}
 use Rattle.texts.specs.Spans.{span}
 use Rattle.texts.specs.declared.Span.{Span}
-use Rattle.types.specs.Words.{ref_words, ref_of, ref_to}
+use Rattle.types.specs.Words.{ref_words, ref_of}
 use Rattle.types.specs.Bytes.{ref_bytes}
 use Rattle.words.specs.Words.{unused}
 use Rattle.types.specs.Answers.{ref_ans}
 use Rattle.std.specs.Prelude.{Option, Some}
 use Rattle.types.specs.declared.RefType.{RefType}
-use Rattle.refs.proofs.Words.{ref_words_there}
+use Rattle.refs.proofs.Words.{ref_words_missing, ref_words_there}
+use Rattle.parts.proofs.Rest.{at_rest}
 use Rattle.parts.specs.Text.{expression}
 use Rattle.parts.specs.Listed.{texts_of, listed}
 use Rattle.parts.specs.Writing.{Writing, item_of, low_of, lowest_behind}
-use Rattle.elements.specs.Item.{flag_of}
-use Rattle.elements.specs.Members.{funcref}
 use Rattle.elements.specs.Segment.{ElementsOf, elements_words_of, elements_words}
-use Rattle.elements.specs.Written.{is_other, head_of, type_of, functions_of, expressions_of, expressions_low, elements_from, elements_of, low_from, elements_low}
+use Rattle.elements.specs.Written.{head_of, type_of, functions_of, expressions_of, expressions_low, elements_from, elements_of, low_from, elements_low}
 use Rattle.modes.specs.declared.Mode.{Mode}
-use Rattle.modes.specs.declared.Mode.TheVariants.{Active}
 
 -- ---- the flag
-
-pub other_type : (m : Mode) (e : Bool) (h k : ℕ) → m ≡ Active → e ≡ true → k ≡ (ref_to funcref).0 → not (eqb h k) ≡ is_other m e h
-other_type m e h k p q z = rw (p, q, z)
 
 module _ {other : Bool} (m : Mode) (e : Bool) {old : List ℕ} {s : Done} {new : List ℕ} {u : Done} where
   pub other_added : other ≡ true → {cur : List ℕ} {t : Done} → Appends (6 ∷ []) old s cur t → Appends (0 ∷ []) cur t new u → Appends (head_of other m e) old s new u
   other_added o a b = subst (λ (k : Bool). Appends (head_of k m e) old s new u) (sym o) (adds_seq a b)
-
-  pub flag_added : other ≡ false → {f : ℕ} → f ≡ flag_of m e → Appends (f ∷ []) old s new u → Appends (head_of other m e) old s new u
-  flag_added o f a = subst (λ (k : Bool). Appends (head_of k m e) old s new u) (sym o) (subst (λ (n : ℕ). Appends (n ∷ []) old s new u) f a)
 
 -- ---- the type, which is written where it is said
 
@@ -56,9 +50,22 @@ module _ (said : Bool) {w : List ℕ} {at : ℕ} {old : List ℕ} {s : Done} whe
   pub type_said : said ≡ true → {new : List ℕ} {r : Walk} → Walks ref_words ref_bytes.print silent w at old s new r → Walks ref_words (type_of said) silent w at old s new r
   type_said t {new} {r} x = subst (λ (k : Bool). Walks ref_words (type_of k) silent w at old s new r) (sym t) x
 
-  pub type_unsaid : at < length w → 2 ≤ length w - at → {found : Option RefType} → found ≡ ref_ans (ref_of (get_or w at 0, get_or w (at + 1) 0)) → said ≡ false → {x : RefType} → found ≡ Some x
-      → AreWords w → Walks ref_words (type_of said) silent w at old s old (Some (at + 2, s))
-  type_unsaid h k d t e i = subst (λ (j : Bool). Walks ref_words (type_of j) silent w at old s old (Some (at + 2, s))) (sym t) (ref_words_there h k d e (adds_nil old s) i)
+-- v is the words from the place on, and found is what `from_words` told of the first two
+module _ (w : List ℕ) (at : ℕ) {v : List ℕ} (from : v ≡ slice_range w at (length w)) {found : Option RefType} (d : found ≡ ref_ans (ref_of (get_or v 0 0, get_or v 1 0))) where
+  found_there : found ≡ ref_ans (ref_of (get_or w at 0, get_or w (at + 1) 0))
+  found_there =
+      let a : get_or v 0 0 ≡ get_or w at 0 = at_rest w at from 0 ∙ ap (λ (j : ℕ). get_or w j 0) (omega arith) in
+      rw (sym a, sym (at_rest w at from 1)) d
+
+module _ {said : Bool} (t : said ≡ false) {w : List ℕ} {at : ℕ} {old : List ℕ} {s : Done} (i : AreWords w) {v : List ℕ} (from : v ≡ slice_range w at (length w)) (long : length v + at ≡ length w)
+    (k : 2 ≤ length v) {found : Option RefType} (d : found ≡ ref_ans (ref_of (get_or v 0 0, get_or v 1 0))) where
+  pub no_type_there : found ≡ None → Walks ref_words (type_of said) silent w at old s old None
+  no_type_there e = ref_words_missing (omega (arith, long)) (omega (arith, long)) (found_there w at from d) e i
+
+  pub type_unsaid : {x : RefType} → found ≡ Some x → Walks ref_words (type_of said) silent w at old s old (Some (at + 2, s))
+  type_unsaid e =
+      subst (λ (j : Bool). Walks ref_words (type_of j) silent w at old s old (Some (at + 2, s))) (sym t)
+      (ref_words_there (omega (arith, long)) (omega (arith, long)) (found_there w at from d) e (adds_nil old s) i)
 
 -- ---- a type, and expressions
 
@@ -75,9 +82,6 @@ module _ (said : Bool) (t : List ℕ) where
       }
 
   module _ {w : List ℕ} {at : ℕ} {old : List ℕ} {s : Done} {new : List ℕ} {r : Walk} where
-    pub type_missing : Walks ref_words (type_of said) silent w at old s new r → r ≡ None → Walks (elements_words_of true) (expressions_of said t) (expressions_low t) w at old s new None
-    type_missing x e = first_missing expressions_joins x e
-
     pub type_then_list : {cur : List ℕ} {p : ℕ} {u : Done} {r' : Walk} → Walks ref_words (type_of said) silent w at old s cur r → r ≡ Some (p, u)
         → Writing (listed expression) t w p cur u new r' → Walks (elements_words_of true) (expressions_of said t) (expressions_low t) w at old s new r'
     type_then_list x e y = second_follows expressions_joins x e y.writes
@@ -132,13 +136,11 @@ module _ (said : Bool) (t : List ℕ) {w : List ℕ} {at : ℕ} {old : List ℕ}
     kind_known e k x =
         walks_as (λ q. (e, q)) (dep_known flag elements_words_of e (drop at w) (drop (at + 1) w) (one_read flag e (bit e) tt refl w at h k)) (λ q. refl) (low_none t e) (adds_nil old s) x
 
-    pub functions_kind : get_or w at 0 ≡ 0 → Walks (elements_words_of false) (functions_of said) silent w (at + 1) old s new r
-        → Walks elements_words (elements_of said t) (elements_low t) w at old s new r
-    functions_kind k x = kind_known false k x
+    module _ {x : ℕ} (y : get_or w at 0 ≡ x) where
+      pub functions_kind : x ≡ 0 → Walks (elements_words_of false) (functions_of said) silent w (at + 1) old s new r
+          → Walks elements_words (elements_of said t) (elements_low t) w at old s new r
+      functions_kind k z = kind_known false (y ∙ k) z
 
-    pub expressions_kind : get_or w at 0 ≡ 1 → Walks (elements_words_of true) (expressions_of said t) (expressions_low t) w (at + 1) old s new r
-        → Walks elements_words (elements_of said t) (elements_low t) w at old s new r
-    expressions_kind k x = kind_known true k x
-
-  pub no_kind : (get_or w at 0 ≡ 0 → ⊥) → (get_or w at 0 ≡ 1 → ⊥) → Walks elements_words (elements_of said t) (elements_low t) w at old s new None
-  no_kind a b = nothing_there (rw (none_read flag bit (λ k. refl) w at h (elim [ true ↦ b | false ↦ a ])))
+      pub expressions_kind : x ≡ 1 → Walks (elements_words_of true) (expressions_of said t) (expressions_low t) w (at + 1) old s new r
+          → Walks elements_words (elements_of said t) (elements_low t) w at old s new r
+      expressions_kind k z = kind_known true (y ∙ k) z

@@ -1,13 +1,13 @@
 -- What a segment lists, in bytes: functions, or a type and expressions, with what the flag says of them or not. Assumes nothing.
-use mathlib.Core.Path.{◌≡◌, refl, sym, subst}
+use mathlib.Core.Path.{◌≡◌, refl, sym, subst, ◌∙◌}
 use mathlib.Core.Bool.{Bool, true, false}
 use mathlib.Core.List.{List, [], ◌∷◌}
-use Prim.Native.Nat.{ℕ, ◌+◌, ◌<◌, ◌≤◌}
+use Prim.Native.Nat.{ℕ, ◌+◌, ◌<◌}
 use native.Mathlib.Omega.{arith}
 use lib.ListN.{length, get_or, length-append}
 use Rattle.format.specs.Count.{Appends, silent, adds_seq}
 use Rattle.format.specs.Lists.{many}
-use Rattle.format.specs.Walk.{Walks, nothing_left, nothing_there}
+use Rattle.format.specs.Walk.{Walks}
 use Rattle.format.specs.declared.Done.{Done}
 use Rattle.format.specs.Walk.{Walk}
 use Rattle.std.specs.Prelude.{None, Some}
@@ -24,7 +24,7 @@ use Rattle.parts.specs.Both.{both}
 use Rattle.parts.specs.Listed.{listed}
 use Rattle.parts.specs.Reading.{Reading, part_missing, part_follows, behind_reads, words_before}
 use Rattle.elements.specs.Members.{indices, functions, ref_type, expressions, funcrefs, members}
-use Rattle.modes.proofs.Tags.{tag_not, stands}
+use Rattle.modes.proofs.Tags.{stands}
 
 -- an expression takes a byte at least, and its span a word
 expr_long : {e : List ℕ} → Expr e → 0 < length e
@@ -44,18 +44,13 @@ module _ (e : Bool) {said k : Bool} {b : List ℕ} {at : ℕ} {old : List ℕ} {
 module _ {said : Bool} {b : List ℕ} {at : ℕ} {old : List ℕ} {s : Done} {new : List ℕ} where
   module _ (t : said ≡ true) where
     -- 00 says that they are functions
-    pub functions_end : length b ≤ at → Reading (members false said) b at old s new None
-    functions_end h = as_members false t (record { reads = λ k. nothing_left h refl })
 
     module _ (h : at < length b) where
-      pub functions_not : (get_or b at 0 ≡ 0 → ⊥) → Reading (members false said) b at old s new None
-      functions_not n = as_members false t (record { reads = λ k. nothing_there (tag_not 0x00 (many u32 u32) b at h n) })
-
-      pub said_functions : {o₁ : List ℕ} {s₁ : Done} {cur : List ℕ} {u : Done} {r : Walk} → get_or b at 0 ≡ 0 → Appends (0 ∷ []) old s o₁ s₁ → Appends (0 ∷ 0 ∷ []) o₁ s₁ cur u
+      pub said_functions : {o₁ : List ℕ} {s₁ : Done} {cur : List ℕ} {u : Done} {r : Walk} {x : ℕ} → get_or b at 0 ≡ x → x ≡ 0 → Appends (0 ∷ []) old s o₁ s₁ → Appends (0 ∷ 0 ∷ []) o₁ s₁ cur u
           → Walks (many u32 u32) (many word word).print silent b (at + 1) cur u new r → Reading (members false said) b at old s new r
-      said_functions {r = r} e a c x =
+      said_functions {r = r} y e a c x =
           as_members false t
-          (behind_reads 0x00 functions b at old s new r (stands 0x00 b at h e)
+          (behind_reads 0x00 functions b at old s new r (stands 0x00 b at h (y ∙ e))
           (words_before indices functions (0 ∷ 0 ∷ 0 ∷ []) (λ s. refl) (λ n x. refl) (adds_seq a c) (record { reads = λ k. x })))
 
     -- a type, and expressions

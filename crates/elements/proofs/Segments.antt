@@ -2,51 +2,33 @@
 use mathlib.Core.Path.{◌≡◌, refl, sym, ap, subst, ◌∙◌}
 use mathlib.Core.Bool.{Bool, true, false}
 use mathlib.Core.List.{List, ◌++◌}
-use Prim.Native.Nat.{ℕ, ◌+◌, ◌-◌, ◌<◌, ◌≤◌, min}
+use Prim.Native.Nat.{ℕ, ◌+◌, min}
 use native.Mathlib.Omega.{arith}
 use lib.Dec.{eqb}
-use lib.ListN.{length, get_or, drop, length-append}
+use lib.ListN.{length, get_or, drop}
 use lib.Seq.{get_or-drop}
+use Rattle.std.specs.Prelude.{slice_range}
 use Rattle.format.specs.Parsed.{got}
 use Rattle.format.specs.Format.{Format}
 use Rattle.format.specs.Basic.{bit, eqb_bit, flag}
 use Rattle.format.specs.Combine.{pair}
 use Rattle.format.specs.Count.{Appends, no_refusal}
-use Rattle.format.specs.Read.{too_few}
 use Rattle.format.specs.Sequence.{Joins, leaves, pair_plain, dep_known, first_missing, second_follows}
-use Rattle.format.specs.Walk.{Walks, nothing_there, walks_read}
+use Rattle.format.specs.Walk.{Walks, walks_read}
 use Rattle.format.specs.declared.Done.{Done}
 use Rattle.format.specs.Walk.{Walk}
 use Rattle.std.specs.Prelude.{None, Some}
 use Rattle.texts.specs.declared.Span.{Span}
 use Rattle.parts.specs.Writing.{Writing, item_of, low_of, lowest_behind}
+use Rattle.parts.proofs.Rest.{at_rest}
 use Rattle.modes.specs.Mode.{mode_words, mode_read, PlaceOf, place}
-use Rattle.elements.specs.Segment.{ElementsOf, Elements, Segment, elements_words_of, elements_words, words}
+use Rattle.elements.specs.Segment.{ElementsOf, Elements, elements_words_of, elements_words}
 use Rattle.elements.specs.Written.{is_other, head_of, is_said, elements_of, elements_low, head_word, item_written, low_written}
 use Rattle.elements.specs.Section.{element_section}
 use Rattle.modes.specs.declared.Mode.{Mode}
 use Rattle.std.specs.Prelude.{Option, None, Some}
 use Rattle.modes.specs.declared.Mode.TheVariants.{Active, Passive, ActiveTable, Declared}
-use Rattle.modes.proofs.Modes.{mode_long, mode_missing, mode_found, mode_within}
-
--- ---- a segment takes eight words at least
-
-place_long : (m : Mode) (p : PlaceOf m Span) → length ((place m).words.print p) ≡ 3
-place_long Active p = refl
-place_long Passive p = refl
-place_long ActiveTable p = refl
-place_long Declared p = refl
-
-elements_long : (e : Bool) (y : ElementsOf e Span) → 2 ≤ length ((elements_words_of e).print y)
-elements_long false y = omega arith
-elements_long true y = omega arith
-
-segment_long : (a : Segment Span) → 8 ≤ length (words.print a)
-segment_long a =
-    let m = mode_words.print a.0 in
-    let p = (place a.0).words.print a.1.0 in
-    let e = elements_words.print a.1.1 in
-    omega (arith, length-append m (p ++ e), length-append p e, mode_long a.0, place_long a.0 a.1.0, elements_long a.1.1.0 a.1.1.1)
+use Rattle.modes.proofs.Modes.{mode_found}
 
 -- ---- the place, and the elements
 
@@ -84,25 +66,27 @@ looked Declared p e y z = (refl, head_at e y z)
 
 -- ---- behind the mode, when the flag was appended by what was looked at
 
-module _ (t w : List ℕ) (at : ℕ) (m : Mode) (is : mode_words.parse (drop at w) ≡ got m (drop (at + 2) w)) where
+-- v is the words from the place on
+module _ (t w : List ℕ) (at : ℕ) {v : List ℕ} (from : v ≡ slice_range w at (length w)) (m : Mode) (is : mode_words.parse (drop at w) ≡ got m (drop (at + 2) w)) where
   abbrev pub kind : Bool
-  kind = eqb (get_or w (at + 5) 0) 1
+  kind = eqb (get_or v 5 0) 1
 
   abbrev pub other : Bool
-  other = is_other m kind (get_or w (at + 6) 0)
+  other = is_other m kind (get_or v 6 0)
 
   module _ (p : PlaceOf m Span) (e : Bool) (y : ElementsOf e Span) (z : List ℕ) (r : (rest_words m).parse (drop (at + 2) w) ≡ got (p, (e, y)) z) where
-    behind : (i j : ℕ) → at + 2 + i ≡ j → get_or w j 0 ≡ get_or ((rest_words m).print (p, (e, y)) ++ z) i 0
+    behind : (i j : ℕ) → 2 + i ≡ j → get_or v j 0 ≡ get_or ((rest_words m).print (p, (e, y)) ++ z) i 0
     behind i j k =
-        ap (λ (n : ℕ). get_or w n 0) (sym k) ∙ sym (get_or-drop (at + 2) w i 0) ∙ ap (λ (l : List ℕ). get_or l i 0) ((rest_words m).only (drop (at + 2) w) (p, (e, y)) z r).1
+        at_rest w at from j ∙ ap (λ (n : ℕ). get_or w n 0) (omega (arith, k)) ∙ sym (get_or-drop (at + 2) w i 0)
+        ∙ ap (λ (l : List ℕ). get_or l i 0) ((rest_words m).only (drop (at + 2) w) (p, (e, y)) z r).1
 
     kind_is : kind ≡ e
-    kind_is = ap (λ (n : ℕ). eqb n 1) (behind 3 (at + 5) (omega arith) ∙ (looked m p e y z).0) ∙ eqb_bit e
+    kind_is = ap (λ (n : ℕ). eqb n 1) (behind 3 5 refl ∙ (looked m p e y z).0) ∙ eqb_bit e
 
     other_is : other ≡ is_other m e (head_word e y)
     other_is =
-        ap (λ (k : Bool). is_other m k (get_or w (at + 6) 0)) kind_is
-        ∙ ap (is_other m e) (behind 4 (at + 6) (omega arith) ∙ (looked m p e y z).1)
+        ap (λ (k : Bool). is_other m k (get_or v 6 0)) kind_is
+        ∙ ap (is_other m e) (behind 4 6 refl ∙ (looked m p e y z).1)
 
     item-is : head_of other m kind ++ rest_of t m (is_said other m) (p, (e, y)) ≡ item_of element_section t (m, (p, (e, y)))
     item-is =
@@ -125,19 +109,13 @@ module _ (t w : List ℕ) (at : ℕ) (m : Mode) (is : mode_words.parse (drop at 
 -- ---- what the code has read
 
 module _ {t w : List ℕ} {at : ℕ} {old : List ℕ} {s : Done} {new : List ℕ} {found : Option Mode} (d : found ≡ mode_read (mode_words.parse (drop at w))) where
-  pub no_mode_there : found ≡ None → Writing element_section t w at old s new None
-  no_mode_there e = record { writes = nothing_there (rw (mode_missing w at d e)) }
-
-  module _ {m : Mode} (e : found ≡ Some m) where
-    pub segment_short : length w - at < 8 → Writing element_section t w at old s new None
-    segment_short k = record { writes = nothing_there (too_few words 8 (omega arith) (λ x ok. segment_long x) w at (omega (arith, mode_within w at d e))) }
-
-    module _ {o : Bool} (oe : o ≡ is_other m (eqb (get_or w (at + 5) 0) 1) (get_or w (at + 6) 0)) {cur : List ℕ} {u : Done} (a : Appends (head_of o m (eqb (get_or w (at + 5) 0) 1)) old s cur u) where
+  module _ {m : Mode} (e : found ≡ Some m) {v : List ℕ} (from : v ≡ slice_range w at (length w)) where
+    module _ {o : Bool} (oe : o ≡ is_other m (eqb (get_or v 5 0) 1) (get_or v 6 0)) {cur : List ℕ} {u : Done} (a : Appends (head_of o m (eqb (get_or v 5 0) 1)) old s cur u) where
       pub place_missing : {r : Walk} → Writing (place m) t w (at + 2) cur u new r → r ≡ None → Writing element_section t w at old s new None
       place_missing x q =
-          segment_walks t w at m (mode_found w at d e) o (is_said o m) oe refl a (first_missing (rest_joins t m (is_said o m)) x.writes q)
+          segment_walks t w at from m (mode_found w at d e) o (is_said o m) oe refl a (first_missing (rest_joins t m (is_said o m)) x.writes q)
 
       pub elements_follow : {mid : List ℕ} {r : Walk} {p : ℕ} {v : Done} {said : Bool} {r' : Walk} → Writing (place m) t w (at + 2) cur u mid r → r ≡ Some (p, v) → said ≡ is_said o m
           → Walks elements_words (elements_of said t) (elements_low t) w p mid v new r' → Writing element_section t w at old s new r'
       elements_follow {said = said} x q i y =
-          segment_walks t w at m (mode_found w at d e) o said oe i a (second_follows (rest_joins t m said) x.writes q y)
+          segment_walks t w at from m (mode_found w at d e) o said oe i a (second_follows (rest_joins t m said) x.writes q y)

@@ -21,13 +21,9 @@ fn flag_mode(f: u8) -> Mode
     ensures { flag_of result (leb 4 f) ≡ f }
 {
     match f {
-        0 => Mode::Active,
-        1 => Mode::Passive,
-        2 => Mode::ActiveTable,
-        3 => Mode::Declared,
-        4 => Mode::Active,
-        5 => Mode::Passive,
-        6 => Mode::ActiveTable,
+        0 | 4 => Mode::Active,
+        1 | 5 => Mode::Passive,
+        2 | 6 => Mode::ActiveTable,
         _ => Mode::Declared,
     }
 }
@@ -39,13 +35,10 @@ fn read_functions(said: bool, b: &[u8], at: usize, out: &mut [u32], s: Done) -> 
     let t = append(0, out, s);
     let u = append_two(0, 0, out, t);
     if said {
-        if b.len() <= at {
-            return None;
-        }
-        if b[at] != 0x00 {
-            return None;
-        }
-        return read_list(Member::Index, b, at + 1, out, u);
+        return match *b.get(at)? {
+            0x00 => read_list(Member::Index, b, at + 1, out, u),
+            _ => None,
+        };
     }
     read_list(Member::Index, b, at, out, u)
 }
@@ -75,12 +68,7 @@ fn read_expressions(said: bool, b: &[u8], at: usize, out: &mut [u32], s: Done) -
 fn is_typed(m: Mode) -> bool
     ensures { result ≡ is_typed m }
 {
-    match m {
-        Mode::Active => false,
-        Mode::Passive => true,
-        Mode::ActiveTable => true,
-        Mode::Declared => true,
-    }
+    m != Mode::Active
 }
 
 // Reads the item at a place and appends the words behind the 9.
@@ -88,10 +76,7 @@ pub fn walk_bytes(b: &[u8], at: usize, out: &mut [u32], s: Done) -> Walk
     requires { length b.now ≤ text_most }
     ensures { Reading element_section b.now at out.old s out.new result }
 {
-    if b.len() <= at {
-        return None;
-    }
-    let f = b[at];
+    let f = *b.get(at)?;
     if 7 < f {
         return None;
     }

@@ -23,17 +23,7 @@ use words::walk_unused;
 fn is_other(m: Mode, expressions: bool, h: u32) -> bool
     ensures { result ≡ is_other m expressions h }
 {
-    match m {
-        Mode::Active => {
-            if expressions {
-                return h != refs::head(RefType::FUNCREF);
-            }
-            false
-        }
-        Mode::Passive => false,
-        Mode::ActiveTable => false,
-        Mode::Declared => false,
-    }
+    m == Mode::Active && expressions && h != refs::head(RefType::FUNCREF)
 }
 
 // The flag of a segment whose table, if it is active, is the one of its record.
@@ -60,12 +50,7 @@ fn flag(m: Mode, expressions: bool) -> u8
 fn is_said(other: bool, m: Mode) -> bool
     ensures { result ≡ is_said other m }
 {
-    match m {
-        Mode::Active => other,
-        Mode::Passive => true,
-        Mode::ActiveTable => true,
-        Mode::Declared => true,
-    }
+    other || m != Mode::Active
 }
 
 // The flag; 06 and table 0 for expressions without a table whose type has to be said.
@@ -98,16 +83,11 @@ fn walk_type(said: bool, words: &[u32], at: usize, out: &mut [u8], s: Done) -> W
     if said {
         return walk_ref(words, at, out, s);
     }
-    if words.len() <= at {
+    let &[h, x, ..] = words.get(at..)? else {
         return None;
-    }
-    if words.len() - at < 2 {
-        return None;
-    }
-    match RefType::from_words(words[at], words[at + 1]) {
-        Some(_) => Some((at + 2, s)),
-        None => None,
-    }
+    };
+    RefType::from_words(h, x)?;
+    Some((at + 2, s))
 }
 
 fn walk_exprs(words: &[u32], at: usize, text: &[u8], out: &mut [u8], s: Done) -> Walk
@@ -137,10 +117,7 @@ fn walk_expressions(
 fn walk_elements(said: bool, words: &[u32], at: usize, text: &[u8], out: &mut [u8], s: Done) -> Walk
     ensures { Walks elements_words (elements_of said text.now) (elements_low text.now) words.now at out.old s out.new result }
 {
-    if words.len() <= at {
-        return None;
-    }
-    match words[at] {
+    match *words.get(at)? {
         0 => walk_functions(said, words, at + 1, out, s),
         1 => walk_expressions(said, words, at + 1, text, out, s),
         _ => None,
@@ -152,11 +129,11 @@ pub fn walk_words(words: &[u32], at: usize, text: &[u8], out: &mut [u8], s: Done
     ensures { Writing element_section text.now words.now at out.old s out.new result }
 {
     let m = find_mode(words, at)?;
-    if words.len() - at < 8 {
+    let &[_, _, _, _, _, kind, head, _, ..] = words.get(at..)? else {
         return None;
-    }
-    let expressions = words[at + 5] == 1;
-    let other = is_other(m, expressions, words[at + 6]);
+    };
+    let expressions = kind == 1;
+    let other = is_other(m, expressions, head);
     let t = append_flag(other, m, expressions, out, s);
     let (p, u) = walk_place(m, words, at + 2, text, out, t)?;
     walk_elements(is_said(other, m), words, p, text, out, u)

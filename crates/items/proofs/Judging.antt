@@ -1,9 +1,10 @@
 -- What a walk over a record's words tells of the answer, as judging and writing ask for it. Assumes nothing.
-use mathlib.Core.Path.{◌≡◌, sym, ◌∙◌}
+use mathlib.Core.Path.{◌≡◌, sym, ap, subst, ◌∙◌}
 use mathlib.Core.List.{List}
 use Prim.Native.Nat.{ℕ, ◌≤◌, ◌<◌}
 use native.Mathlib.Omega.{arith}
 use lib.ListN.{length, take}
+use Rattle.std.specs.Prelude.{slice_range}
 use Rattle.format.specs.Count.{count_in, low_in}
 use Rattle.format.specs.Walk.{Walks}
 use Rattle.format.specs.Write.{Writes, wrote, writes_as}
@@ -66,8 +67,9 @@ module _ {w t old : List ℕ} {s : Done} {new : List ℕ} {r : Walk} {from : ℕ
           item_measured m = let a = accepted records w t found b.few below short (omega arith) (omega arith) in record { is = length_is w t n a.0 (a.1 ∙ sym c); puts = left }
 
 -- what was tried is copied, or the words are walked again, with a refusal below which none is looked for
-pub copied : (w t : List ℕ) (n : ℕ) (tried : List ℕ) {old new : List ℕ} {r : Written} → n ≤ length tried → Writes (take n tried) old new r → Tried w t n tried → Puts w t old new
-copied w t n tried h x k z room = (wrote (writes_as (k.1 h) x) room).1
+pub copied : (w t : List ℕ) (n : ℕ) (tried : List ℕ) {item old new : List ℕ} {r : Written} → item ≡ slice_range tried 0 n → n ≤ length tried → Writes item old new r → Tried w t n tried
+    → Puts w t old new
+copied w t n tried {item} {old} {new} {r} from h x k z room = let e : item ≡ take n tried = from ∙ ap (λ (i : ℕ). take i tried) (omega arith) in (wrote (writes_as (k.1 h) (subst (λ (l : List ℕ). Writes l old new r) e x)) room).1
 
 pub walked_again : (t : List ℕ) {w old new : List ℕ} {s : Done} {r : Walk} → s.v ≡ 0 → Walks words (item_of t) (low_of t) w 0 old s new r → Puts w t old new
 walked_again t {w} {old} {new} {s} {r} e h = second_walk records w t old s new r h (omega (arith, e))

@@ -60,10 +60,14 @@ fn start(words: &[u32], text: &[u8]) -> u32
     if TEXT_MOST < text.len() {
         return 0;
     }
-    if words.is_empty() || words[0] != 2 || words.len() < text.len() / 32 {
+    let [2, ..] = words else {
         return NO_REFUSAL;
+    };
+    if text.len() / 32 <= words.len() && is_plain(text) {
+        4
+    } else {
+        NO_REFUSAL
     }
-    if is_plain(text) { 4 } else { NO_REFUSAL }
 }
 
 // What a record and its text draw of 2 to 6; or none of them, and the item's length. Measured by a walk, which leaves the item of a record that draws none of them in
@@ -100,8 +104,8 @@ pub fn judge(words: &[u32], text: &[u8], tried: &mut [u8]) -> Result<usize, Refu
 pub fn put_item(words: &[u32], text: &[u8], n: usize, tried: &[u8], out: &mut [u8])
     ensures { Tried words.now text.now n tried.now → Puts words.now text.now out.old out.new }
 {
-    if n <= tried.len() {
-        let _ = copy(&tried[..n], out);
+    if let Some(item) = tried.get(..n) {
+        let _ = copy(item, out);
         return;
     }
     walk_words(words, text, out, Done::new(0));

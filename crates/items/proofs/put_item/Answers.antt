@@ -2,8 +2,8 @@
 use Rattle.items.proofs.Judging.{copied, walked_again}
 use Rattle.items.proofs.put_item.Goals as goal
 
-pub returns-then-n-tried : goal.returns-then-n-tried
-returns-then-n-tried c = search copied
+pub returns-in-Some : goal.returns-in-Some
+returns-in-Some c = let (_, long, from, _) = c.in-Some.ensures.lookup.0 in search (copied, from, long)
 
 pub returns : goal.returns
 returns c tried = search walked_again
