@@ -6,7 +6,7 @@ use native.Mathlib.Omega.{arith}
 use lib.ListN.{length, get_or, drop}
 use borrow.Author.Tests.{ne_eqb}
 use Rattle.format.specs.Count.{Adds, Appends, silent, adds_seq, adds_eq}
-use Rattle.format.specs.Read.{reading, drop_more, one_read}
+use Rattle.format.specs.Read.{reading, drop_more, drop_two, one_read}
 use Rattle.format.specs.Told.{one_at}
 use Rattle.format.specs.Walk.{Walks, value_there}
 use Rattle.format.specs.declared.Done.{Done}
@@ -26,7 +26,7 @@ use Rattle.parts.proofs.Rest.{at_rest}
 use Rattle.parts.specs.Writing.{Writing}
 use Rattle.parts.specs.Reading.{Reading}
 use Rattle.parts.specs.Chosen.{chosen_writing, chosen_reading}
-use Rattle.data.specs.Target.{memory_index_bytes, Mode, passive, active, target_of, mode_code, mode_word, mode_at, target_bytes, target}
+use Rattle.data.specs.Target.{memory_index_bytes, Mode, passive, active, no_target, target_of, mode_code, mode_word, mode_at, target_bytes, target}
 
 -- ---- a memory
 
@@ -45,6 +45,16 @@ other_there {b} {at} {m = m} {r = r} h y e d i n a =
     value_there {a = m} a (rw (drop_more b at h, ← y, e, number_found u32 b (at + 1) r d i, ne_eqb m 0 n)) (number_place u32 b (at + 1) r d i)
 
 -- ---- words
+
+drop_three : (w : List ℕ) (at : ℕ) → at + 3 ≤ length w → drop at w ≡ get_or w at 0 ∷ get_or w (at + 1) 0 ∷ get_or w (at + 2) 0 ∷ drop (at + 3) w
+drop_three w at h =
+    let e : at + 2 + 1 ≡ at + 3 = omega arith in
+    rw (drop_two w at (omega arith), drop_more w (at + 2) (omega arith), e)
+
+-- no memory and no offset are three words of 0
+pub no_target_lem : {w : List ℕ} {at : ℕ} {old : List ℕ} {s : Done} {new : List ℕ} {u : Done} → at + 3 ≤ length w → get_or w at 0 ≡ 0 → get_or w (at + 1) 0 ≡ 0 → get_or w (at + 2) 0 ≡ 0
+    → Appends (1 ∷ []) old s new u → Walks no_target.words no_target.bytes.print silent w at old s new (Some (at + 3, u))
+no_target_lem {w} {at} h x y z a = value_there {a = tt} a (rw (drop_three w at h, x, y, z)) h
 
 -- the span behind a memory
 abbrev offset_in : List ℕ → ℕ → Span

@@ -66,7 +66,11 @@ fn number_left(signed: bool, n: u32, b: u8) -> Option<u32>
     ensures { result ≡ number_left signed n b }
 {
     if b < 0x80 {
-        return leb128::is_within(signed, n, b).then_some(0);
+        return if leb128::is_within(signed, n, b) {
+            Some(0)
+        } else {
+            None
+        };
     }
     if 7 < n { Some(n - 7) } else { None }
 }
@@ -108,8 +112,9 @@ pub fn expr_end(s: &[u8]) -> Option<usize>
             Operand::Number { signed, bits } => {
                 let mut left = bits;
                 while left != 0 {
-                    left = number_left(signed, left, *s.get(i)?)?;
+                    let b = *s.get(i)?;
                     i += 1;
+                    left = number_left(signed, left, b)?;
                 }
             }
         }

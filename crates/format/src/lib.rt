@@ -82,8 +82,15 @@ impl Done {
     pub fn grown(self, k: usize) -> Done
         ensures { result.v ≡ grown_by self k }
     {
-        Done {
-            v: LOW_ROOM * more(self.count(), k) as u64 + self.v % LOW_ROOM,
+        // The count grows where it stands: to take it out and put it back would be on the way from each walk to the next.
+        if more(self.count(), k) < COUNT_PAST {
+            Done {
+                v: self.v + LOW_ROOM * k as u64,
+            }
+        } else {
+            Done {
+                v: LOW_ROOM * COUNT_PAST as u64 + self.v % LOW_ROOM,
+            }
         }
     }
 

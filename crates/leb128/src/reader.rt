@@ -92,6 +92,7 @@ fn last(signed: bool, bits: u32, b: u8, low: u64, shift: u32, end: usize) -> Opt
 }
 
 // A number of so many bits at a place, in its shortest form. No width in use is a multiple of seven, so the last group that a width allows is cut.
+#[inline(always)]
 pub fn decode(signed: bool, bits: u32, s: &[u8], at: usize) -> Option<(Parts, usize)>
     requires { (1 ≤ bits % 7) × (bits ≤ 64) }
     ensures { result ≡ parts_of s.now (short signed bits (drop at s.now)) }

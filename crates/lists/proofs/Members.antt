@@ -17,10 +17,10 @@ use Rattle.words.specs.WordWalks as words
 use Rattle.lists.specs.Member.{Value, member_words, member_bytes, list_words, list_bytes, words_long, bytes_long}
 use Rattle.lists.specs.declared.Member.{Member}
 
--- a walk over a member of a kind that is known is one over a member of that kind
-pub as_member : (W X : (m : Member) → Format (Value m)) (n : Member) {m : Member} {w : List ℕ} {at : ℕ} {old : List ℕ} {s : Done} {new : List ℕ} {r : Walk} → m ≡ n
+-- a walk over a list of members of a kind that is known is one over a list of that kind
+pub as_list : (W X : (m : Member) → Format (List (Value m))) (n : Member) {m : Member} {w : List ℕ} {at : ℕ} {old : List ℕ} {s : Done} {new : List ℕ} {r : Walk} → m ≡ n
     → Walks (W n) (X n).print silent w at old s new r → Walks (W m) (X m).print silent w at old s new r
-as_member W X n {m} {w} {at} {old} {s} {new} {r} e h = subst (λ (k : Member). Walks (W k) (X k).print silent w at old s new r) (sym e) h
+as_list W X n {m} {w} {at} {old} {s} {new} {r} e h = subst (λ (k : Member). Walks (W k) (X k).print silent w at old s new r) (sym e) h
 
 -- a list behind its count: the laws of `numbers` and `texts`, for any kind of member
 pub list_of_bytes : (m : Member) → CountedList u32 (λ n. n ∷ []) (member_bytes m) (λ k v. (member_words m).print v) silent (λ k xs. (list_words m).print xs) silent

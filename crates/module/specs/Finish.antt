@@ -1,6 +1,6 @@
 -- What finishing answers and leaves, for every input (document 01, Store and module; Answers by number: 1, 8, 9, 10). Assumes nothing.
 use Rattle.std.specs.Prelude.{◌≡◌, ◌↔◌, Bool, true, false, not, ◌||◌, List, [], ◌∷◌, ◌++◌, ℕ, ltb, length, take, drop}
-use Rattle.std.proofs.Math.Path.{refl, sym}
+use Rattle.std.proofs.Math.Path.{refl, sym, ap}
 use Rattle.std.proofs.Common.{◌∙◌, arith}
 use Rattle.std.proofs.Math.Option.{Option}
 use Rattle.format.specs.Answers.{answer, NoneHolds, given_exactly, accepted_exactly, settled, settled_accepts, settled_exactly}
@@ -12,7 +12,7 @@ use Rattle.frames.specs.Builder.{used_in, frames_in, is_over, is_unframed, unfra
 use Rattle.frames.specs.declared.State.{State}
 use Rattle.sections.specs.Section.{Ending}
 use Rattle.sections.specs.Order.{order_most, order_ids, all_among}
-use Rattle.module.specs.Module.{module_of}
+use Rattle.module.specs.Module.{module_of, module_least}
 
 -- what finishing answers, and what it stands for
 abbrev pub Finished : Type 0
@@ -92,6 +92,10 @@ module _ (state : State) (store : List ℕ) (e : Ending) (out : List ℕ) where
 
   pub clear : NoneHolds conditions → Clear
   clear (a, (b, (c, (d, _)))) = record { within = a; listed = b; framed = c; roomy = d }
+
+  -- accepted, its length is not that beside a refusal
+  pub some_length : finishing.number ≡ 0 → finishing.value ≡ 0 → ⊥
+  some_length z v = omega (arith, ap (λ (o : Outcome). o.value) (accepts (zero_exactly.0 z)), module_least e (held (frames_in state store)))
 
   -- ---- any two answers and outputs that the contract allows are equal
 

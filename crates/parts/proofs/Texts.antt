@@ -1,12 +1,16 @@
--- How the walks over texts are put together: what a finder told of bytes at a place. Assumes nothing.
+-- How the walks over texts are put together: what a finder told of a span in the words, and of bytes at a place. Assumes nothing.
 use mathlib.Core.Path.{◌≡◌, refl, sym, ap, subst, ◌∙◌}
 use mathlib.Core.Bool.{Bool, true, false}
 use mathlib.Core.List.{List, ◌++◌}
-use Prim.Native.Nat.{ℕ, ◌+◌, ◌-◌, ◌≤◌}
+use Prim.Native.Nat.{ℕ, ◌+◌, ◌-◌, ◌<◌, ◌≤◌, ◌^◌}
 use native.Mathlib.Omega.{arith}
+use lib.Dec.{leb}
 use lib.IntN.{pos}
 use lib.ListN.{length, take, drop, length-append, take-append-drop}
 use lib.Seq.{length-take-le}
+use borrow.Author.Tests.{leb-true}
+use mir.Syntax.{w64}
+use mir.Val.{Fits}
 use Rattle.format.specs.Parsed.{Parsed, fail, got}
 use Rattle.format.specs.Read.{begins}
 use Rattle.format.specs.Sized.{sized}
@@ -16,11 +20,17 @@ use Rattle.leb128.specs.Leb.{uleb, unsigned}
 use Rattle.leb128.proofs.LebLaws.{leb_some}
 use Rattle.names.specs.Name.{is_name}
 use Rattle.texts.specs.Text.{cut_is}
+use Rattle.texts.specs.Spans.{span}
 use Rattle.texts.specs.Place.{sized_at, text_at, Stands, stands}
 use Rattle.texts.specs.Held.{Holds, sized_held}
 use Rattle.texts.specs.declared.Span.{Span}
 use Rattle.std.specs.Prelude.{Option}
-use Rattle.parts.specs.Text.{name_bytes}
+use Rattle.parts.specs.Text.{name_bytes, span_of, span_is}
+
+-- ---- a span in the words: the place behind it is within them, and so is one before that
+
+pub behind_span : (w : List ℕ) (at i : ℕ) {found : Option Span} {v : Span} → found ≡ span_of (span.parse (drop at w)) → found ≡ Some v → length w < 2 ^ 64 → leb i 2 ≡ true → Fits w64 (at + i)
+behind_span w at i {v = v} d e h k = record { fits = omega (arith, (span_is w at v (sym d ∙ e)).1, leb-true i 2 k) }
 
 -- ---- bytes that were found: where they end
 

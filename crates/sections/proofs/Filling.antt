@@ -207,11 +207,10 @@ module _ {s order : List ℕ} {n : ℕ} {xs start ys places : List ℕ} {f : Fra
     filled_other z = record { bytes = one.bytes; fills = λ given zs h. filling_other (filled.fills given zs h) before one.found z }
 
     pub filled_item : {w : Written} {zs : List ℕ} → 0 < get_or places i 0 → Writes item.now (mid_of (get_or places i 0) (length ys - get_or places i 0) ys) zs w
-        → {k : ℕ} → w ≡ Ok k
-        → Filled s order n xs start (put_mid (get_or places i 0) (length ys - get_or places i 0) ys zs) (set places i (get_or places i 0 + k)) g
-    filled_item {zs = zs} p w {k} told =
+        → Filled s order n xs start (put_mid (get_or places i 0) (length ys - get_or places i 0) ys zs) (set places i (get_or places i 0 + length item.now)) g
+    filled_item {zs = zs} p w =
         let v = writes_as one.item w in
-        let z : k ≡ g.at - (f.at + 5) = omega (arith, (told_length (written v told) refl).0, one.found.long) in
+        let z : length item.now ≡ g.at - (f.at + 5) = omega (arith, ap length one.item, one.found.long) in
         rw z (record { bytes = one.bytes; fills = λ given zs h. filling_item (filled.fills given zs h) before one.found p (writes_as one.found.item v) })
 
   module _ (t : Tallies) (same : Some t ≡ tally_of (run frame s)) (given : Given) {zs : List ℕ} (h : Headed (plan_of t given) order zs xs start n) where
@@ -231,15 +230,8 @@ module _ {s order : List ℕ} {n : ℕ} {xs start ys places : List ℕ} {f : Fra
       pub filled_starts : get_or places i 0 ≤ length ys
       filled_starts = left.start
 
-      module _ {w : Written} {us : List ℕ} (v : Writes item.now (mid_of (get_or places i 0) (length ys - get_or places i 0) ys) us w) where
-        put : Writes (one i item g step).found.here.item (mid_of (get_or places i 0) (length ys - get_or places i 0) ys) us w
-        put = writes_as (one i item g step).item v
-
-        pub filled_room : IsOk w
-        filled_room = room_ok put left.room
-
-        pub filled_fits : {k : ℕ} → w ≡ Ok k → length zs < 2 ^ 64 → Fits w64 (get_or places i 0 + k)
-        filled_fits told m = record { fits = omega (arith, room_long left, filled_long, (told_length (written put told) refl).0) }
+      pub filled_fits : length zs < 2 ^ 64 → Fits w64 (get_or places i 0 + length item.now)
+      filled_fits m = record { fits = omega (arith, room_long left, filled_long, ap length (one i item g step).item) }
 
     -- and no more
     pub filled_done : {g : Frames} → frame_steps f None g → all_among order_ids order ≡ true → Writes (prints (section_of given (frames_of s)) order) zs ys (Ok n)

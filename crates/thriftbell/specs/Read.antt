@@ -1,6 +1,6 @@
 -- What reading an item answers and leaves, for every input (document 01, Answers by number, Reading an item: 11, 10). Assumes nothing.
 use Rattle.std.proofs.Math.Path.{◌≡◌, refl, sym, ap}
-use Rattle.std.proofs.Common.{◌∙◌, arith}
+use Rattle.std.proofs.Common.{◌∙◌, true≢false, arith}
 use Rattle.std.specs.Prelude.{◌↔◌, Bool, true, List, [], ◌∷◌, ℕ, ◌≤◌, ◌<◌, ltb, take, drop}
 use Rattle.std.proofs.Math.Bool.{false}
 use Rattle.std.proofs.Math.Option.{Option, none, some}
@@ -11,7 +11,7 @@ use Rattle.format.specs.Read.{place_of}
 use Rattle.format.specs.Write.{over}
 use Rattle.format.specs.Answers.{answer, NoneHolds, given_exactly, accepted_exactly, settled, settled_accepts, settled_refuses, settled_exactly}
 use Rattle.texts.specs.Judge.{words_most}
-use Rattle.items.specs.Record.{Item, begins_in, read_in, record_of}
+use Rattle.items.specs.Record.{Item, begins_in, read_in, record_of, record_some}
 use Rattle.std.specs.Prelude.{Result, Ok, Err}
 use Rattle.format.specs.Refusal.{number_of, one_number, numbered}
 use Rattle.format.specs.declared.refusal.Refusal.{Refusal}
@@ -128,6 +128,24 @@ module _ (id : ℕ) (bytes out : List ℕ) where
 pub only_front : (id : ℕ) (b c out : List ℕ) → front_of b ≡ front_of c → reading id b out ≡ reading id c out
 unfolding reading words_in
 only_front id b c out e = rw e
+
+module _ (id : ℕ) (bytes out : List ℕ) where
+  pub some_words : is_nothing (words_in id bytes out) ≡ false → 0 < length (words_of (words_in id bytes out))
+  unfolding words_in
+  some_words e = go (read_in id (front_of bytes)) e
+    where
+      go : (m : Parsed Item) → is_nothing (read_of (front_of bytes) m) ≡ false → 0 < length (words_of (read_of (front_of bytes) m))
+      go fail e = absurd (true≢false e)
+      go (got x r) e = record_some x
+
+  -- accepted, it has written some
+  pub some_written : (reading id bytes out).number ≡ 0 → (reading id bytes out).words ≡ 0 → ⊥
+  unfolding reading
+  some_written z e =
+      let h = (zero_exactly id bytes out).0 z in
+      let a : answer (conditions id bytes out) ≡ 0 = (accepted_exactly (conditions id bytes out) refl).1 h in
+      let o = settled_accepts (refused out) (took id bytes out) (answer (conditions id bytes out)) a in
+      omega (arith, ap (λ (o : Outcome). o.words) o, some_words h.0)
 
 -- any two answers and outputs that the contract allows are equal
 module _ (id : ℕ) (bytes out : List ℕ) where

@@ -24,14 +24,14 @@ loop-left-init c = let x = c.in_ok-get.ensures.lookup.3 in search (operand_begin
 pub instructions-preserved : goal.instructions-preserved
 instructions-preserved c = search number_ends
 
-pub returns-in_err-get-in-Number : goal.returns-in_err-get-in-Number
-returns-in_err-get-in-Number c = search (bytes_missing, c.in_err-get-in-Number.ensures.lookup.3)
+pub returns-in_err-b-in-Number : goal.returns-in_err-b-in-Number
+returns-in_err-b-in-Number c = search (bytes_missing, c.in_err-b-in-Number.ensures.lookup.3)
 
 pub returns-in_err-left-in-Number : goal.returns-in_err-left-in-Number
-returns-in_err-left-in-Number c = let x = c.in_ok-get-in-Number.ensures.lookup.3 in search (number_wrong, x.0, x.1 0, c.in_err-left-in-Number.was)
+returns-in_err-left-in-Number c = let x = c.in_ok-b-in-Number.ensures.lookup.3 in search (number_wrong, x.0, x.1 0, c.in_err-left-in-Number.was)
 
 pub loop-left-preserved : goal.loop-left-preserved
-loop-left-preserved c = let x = c.in_ok-get-in-Number.ensures.lookup.3 in search (number_goes_on, x.0, x.1 0, rules)
+loop-left-preserved c = let x = c.in_ok-b-in-Number.ensures.lookup.3 in search (number_goes_on, x.0, x.1 0, rules)
 
 pub returns : goal.returns
 returns c = let x = c.in_ok-get.ensures.lookup.3 in search (last_instruction, x.0, x.1 0, c.in_ok-opcode.was, rules)

@@ -1,8 +1,16 @@
--- `lists::writer::walk_list` meets its contract: each call of its closure writes a member. Assumes nothing.
+-- `lists::writer::walk_list` meets its contract: each call of its closure writes a member of the kind. Assumes nothing.
 use Rattle.std.proofs.Common.{rules}
 use Rattle.format.specs.Repeats.{calls_list}
-use Rattle.lists.proofs.Members.{list_of_words}
+use Rattle.lists.specs.Member.{list_words, list_bytes}
+use Rattle.lists.proofs.Members.{as_list, list_of_words}
+use Rattle.lists.specs.declared.Member.TheVariants.{Index, Val, Field}
 use Rattle.lists.proofs.writer.walk_list.Goals as goal
 
-pub returns : goal.returns
-returns c = calls_list (list_of_words c.args.m) c.walk_list.ensures (λ p lent s left r h y. search rules)
+pub returns-in-Index : goal.returns-in-Index
+returns-in-Index c = as_list list_words list_bytes Index c.in-Index.is (calls_list (list_of_words Index) c.walk_list.ensures (λ p lent s left r h y. search rules))
+
+pub returns-in-Val : goal.returns-in-Val
+returns-in-Val c = as_list list_words list_bytes Val c.in-Val.is (calls_list (list_of_words Val) c.walk_list-in-Val.ensures (λ p lent s left r h y. search rules))
+
+pub returns-in-Field : goal.returns-in-Field
+returns-in-Field c = as_list list_words list_bytes Field c.in-Field.is (calls_list (list_of_words Field) c.walk_list-in-Field.ensures (λ p lent s left r h y. search rules))

@@ -1,6 +1,6 @@
 -- What the check leaves of `sections::Sections::put_once`.
 use Rattle.frames.specs.Tally.{framed}
-use Rattle.sections.proofs.Filling.{heads_room, filled_none, filled_other, filled_item, filled_starts, filled_room, filled_fits, filled_done}
+use Rattle.sections.proofs.Filling.{heads_room, filled_none, filled_other, filled_item, filled_starts, filled_fits, filled_done}
 use Rattle.sections.proofs.Sections.put_once.Goals as goal
 
 pub put_heads-n-requires-clause-room : goal.put_heads-n-requires-clause-room
@@ -14,9 +14,6 @@ slice_bounds-copy-count c = search (filled_starts, c.in-Some.ensures.steps)
 
 pub slice_bounds-copy-start : goal.slice_bounds-copy-start
 slice_bounds-copy-start c = search (filled_starts, c.in-Some.ensures.steps)
-
-pub unwrap-k-requires : goal.unwrap-k-requires
-unwrap-k-requires c = search (filled_room, c.in-Some.ensures.steps)
 
 pub overflow_add-places : goal.overflow_add-places
 overflow_add-places c = search (filled_fits, c.in-Some.ensures.steps)
